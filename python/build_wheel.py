@@ -30,7 +30,7 @@ HERE = pathlib.Path(__file__).resolve().parent
 ROOT = HERE.parent
 PROJECT = tomllib.loads((HERE / "pyproject.toml").read_text())["project"]
 # The headers that the module includes.
-HEADERS = ("hunkravy.h", "hunkravy_records.h")
+HEADERS = ("hunkravy.h", "hunkravy_pages.h", "hunkravy_records.h")
 # The stable interface, of Python 3.11 and later.
 INTERFACE = "cp311-abi3"
 # The oldest glibc that has what the module asks for.

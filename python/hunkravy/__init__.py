@@ -42,6 +42,7 @@ from ._macs import (
     Mac,
 )
 from ._native import LEVEL as _LEVEL, InvalidTag
+from ._random_access import RandomAccessFile, RandomAccessFileError, RandomAccessStream
 from ._records import RecordError, RecordOpener, RecordSealer
 from ._version import VERSION as __version__
 
@@ -63,6 +64,9 @@ __all__ = [
     "Encryptor",
     "InvalidTag",
     "Mac",
+    "RandomAccessFile",
+    "RandomAccessFileError",
+    "RandomAccessStream",
     "RecordError",
     "RecordOpener",
     "RecordSealer",

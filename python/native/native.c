@@ -15,6 +15,7 @@
 #include <string.h>
 
 #include "hunkravy.h"
+#include "hunkravy_pages.h"
 #include "hunkravy_records.h"
 
 /* The longest keys and nonces, and the longest tags. */
@@ -555,11 +556,200 @@ static PyObject *cipher_begin(PyObject *object, PyObject *given)
     return (PyObject *)state;
 }
 
+/* ---- The same with the pages, the headers and the journals of a file in place */
+
+static PyObject *cipher_page_place(PyObject *object, PyObject *given)
+{
+    unsigned int page_size;
+    unsigned long long number;
+    if (!PyArg_ParseTuple(given, "IK", &page_size, &number)) {
+        return NULL;
+    }
+    return PyLong_FromUnsignedLongLong(hunkravy_page_place(((Cipher *)object)->variant, page_size, number));
+}
+
+/* The arguments are the page, the ID of its file, its number, and to encrypt it a nonce. */
+static PyObject *cipher_page(PyObject *object, PyObject *given)
+{
+    const Cipher *self = (Cipher *)object;
+    Py_buffer page, id, nonce = {.obj = NULL};
+    unsigned long long number;
+    PyObject *result = NULL;
+    if (!PyArg_ParseTuple(given, "w*y*K|y*", &page, &id, &number, &nonce)) {
+        return NULL;
+    }
+    if (has_length("the ID", id.len, HUNKRAVY_PAGE_ID_BYTES)) {
+        size_t length = (size_t)page.len;
+        PyThreadState *released = begin_work(length);
+        int code = PyTuple_Size(given) == 4
+            ? hunkravy_page_seal(self->variant, page.buf, length, id.buf, number, nonce.buf, (size_t)nonce.len, self->key,
+                  self->key_bytes)
+            : hunkravy_page_open(self->variant, page.buf, length, id.buf, number, self->key, self->key_bytes);
+        end_work(released);
+        result = result_of(object, code, Py_NewRef(Py_None));
+    }
+    PyBuffer_Release(&page);
+    PyBuffer_Release(&id);
+    PyBuffer_Release(&nonce);
+    return result;
+}
+
+/* The arguments are the page size, the ID, the counter, the length of the contents, and a nonce. */
+static PyObject *cipher_header_seal(PyObject *object, PyObject *given)
+{
+    const Cipher *self = (Cipher *)object;
+    Py_buffer id, nonce;
+    unsigned int page_size;
+    unsigned long long counter, length;
+    uint8_t *block;
+    PyObject *result = NULL;
+    if (!PyArg_ParseTuple(given, "Iy*KKy*", &page_size, &id, &counter, &length, &nonce)) {
+        return NULL;
+    }
+    if (has_length("the ID", id.len, HUNKRAVY_PAGE_ID_BYTES)) {
+        result = new_bytes(HUNKRAVY_PAGE_HEADER_BLOCK_BYTES, &block);
+    }
+    if (result != NULL) {
+        int code = hunkravy_page_header_seal(self->variant, block, page_size, id.buf, counter, length, nonce.buf,
+            (size_t)nonce.len, self->key, self->key_bytes);
+        result = result_of(object, code, result);
+    }
+    PyBuffer_Release(&id);
+    PyBuffer_Release(&nonce);
+    return result;
+}
+
+/* Returns the page size, the ID, the counter and the length of the contents. */
+static PyObject *cipher_header_open(PyObject *object, PyObject *given)
+{
+    const Cipher *self = (Cipher *)object;
+    Py_buffer block;
+    uint8_t id[HUNKRAVY_PAGE_ID_BYTES];
+    uint32_t page_size;
+    uint64_t counter, length;
+    PyObject *result = NULL;
+    if (!PyArg_ParseTuple(given, "y*", &block)) {
+        return NULL;
+    }
+    if (has_length("the header", block.len, HUNKRAVY_PAGE_HEADER_BLOCK_BYTES)) {
+        int code = hunkravy_page_header_open(self->variant, block.buf, self->key, self->key_bytes, &page_size, id,
+            &counter, &length);
+        result = code != HUNKRAVY_OK ? result_of(object, code, NULL)
+            : Py_BuildValue("Iy#KK", page_size, id, (Py_ssize_t)sizeof id, (unsigned long long)counter,
+                  (unsigned long long)length);
+    }
+    PyBuffer_Release(&block);
+    return result;
+}
+
+/* Takes a write out of a list of a position and bytes each. */
+static PyObject *write_of(PyObject *writes, Py_ssize_t number, unsigned long long *place)
+{
+    PyObject *bytes, *write = PyList_GetItem(writes, number);
+    return write != NULL && PyArg_ParseTuple(write, "KS", place, &bytes) ? bytes : NULL;
+}
+
+/* Returns the length of the journal of a list of writes, or 0 with an exception. */
+static size_t journal_length(PyObject *writes)
+{
+    size_t length = HUNKRAVY_JOURNAL_START_BYTES + HUNKRAVY_JOURNAL_MAC_BYTES;
+    unsigned long long place;
+    for (Py_ssize_t i = 0; i < PyList_Size(writes); i++) {
+        PyObject *bytes = write_of(writes, i, &place);
+        if (bytes == NULL) {
+            return 0;
+        }
+        length += HUNKRAVY_JOURNAL_HEAD_BYTES + (size_t)PyBytes_Size(bytes);
+    }
+    return length;
+}
+
+/* Writes the journal of a list of writes, of which nothing but the first bytes is written. */
+static int write_journal(hunkravy_state *state, PyObject *writes, uint8_t *at)
+{
+    unsigned long long place = 0;
+    int code = HUNKRAVY_OK;
+    for (Py_ssize_t i = 0; code == HUNKRAVY_OK && i < PyList_Size(writes); i++) {
+        PyObject *bytes = write_of(writes, i, &place);
+        const uint8_t *from = (const uint8_t *)PyBytes_AsString(bytes);
+        size_t length = (size_t)PyBytes_Size(bytes);
+        code = hunkravy_journal_entry(state, place, from, length, at);
+        copy(at + HUNKRAVY_JOURNAL_HEAD_BYTES, from, length);
+        at += HUNKRAVY_JOURNAL_HEAD_BYTES + length;
+    }
+    return code == HUNKRAVY_OK ? hunkravy_journal_final(state, at) : code;
+}
+
+/* Returns the journal of a commit. The arguments are the page size, the ID, a nonce, and a list of the writes. */
+static PyObject *cipher_journal(PyObject *object, PyObject *given)
+{
+    const Cipher *self = (Cipher *)object;
+    Py_buffer id, nonce;
+    unsigned int page_size;
+    PyObject *writes, *result = NULL;
+    uint8_t *journal;
+    hunkravy_state state;
+    size_t length = 0;
+    if (!PyArg_ParseTuple(given, "Iy*y*O!", &page_size, &id, &nonce, &PyList_Type, &writes)) {
+        return NULL;
+    }
+    if (has_length("the ID", id.len, HUNKRAVY_PAGE_ID_BYTES) &&
+        has_length("the nonce", nonce.len, HUNKRAVY_JOURNAL_NONCE_BYTES) && (length = journal_length(writes)) != 0) {
+        result = new_bytes(length, &journal);
+    }
+    if (result != NULL) {
+        int code = hunkravy_journal_init(self->variant, &state, page_size, id.buf, nonce.buf, self->key,
+            self->key_bytes, journal);
+        code = code != HUNKRAVY_OK ? code : write_journal(&state, writes, journal + HUNKRAVY_JOURNAL_START_BYTES);
+        hunkravy_wipe(&state, sizeof state);
+        result = result_of(object, code, result);
+    }
+    PyBuffer_Release(&id);
+    PyBuffer_Release(&nonce);
+    return result;
+}
+
+/* Returns the writes of a journal that are to be made again. The arguments are what the file begins with, and the journal. */
+static PyObject *cipher_journal_writes(PyObject *object, PyObject *given)
+{
+    const Cipher *self = (Cipher *)object;
+    Py_buffer file, journal;
+    size_t left = 0;
+    if (!PyArg_ParseTuple(given, "y*y*", &file, &journal)) {
+        return NULL;
+    }
+    int code = hunkravy_journal_check(self->variant, file.buf, (size_t)file.len, self->key, self->key_bytes, journal.buf,
+        (size_t)journal.len, &left);
+    PyObject *writes = result_of(object, code, PyList_New(0));
+    const uint8_t *at = (const uint8_t *)journal.buf + (left == 0 ? 0 : HUNKRAVY_JOURNAL_START_BYTES);
+    uint64_t place;
+    size_t length;
+    while (writes != NULL && hunkravy_journal_next(at, left, &place, &length) == HUNKRAVY_OK) {
+        PyObject *write = Py_BuildValue("Ky#", (unsigned long long)place, at + HUNKRAVY_JOURNAL_HEAD_BYTES,
+            (Py_ssize_t)length);
+        if (write == NULL || PyList_Append(writes, write) < 0) {
+            Py_CLEAR(writes);
+        }
+        Py_XDECREF(write);
+        at += HUNKRAVY_JOURNAL_HEAD_BYTES + length;
+        left -= HUNKRAVY_JOURNAL_HEAD_BYTES + length;
+    }
+    PyBuffer_Release(&file);
+    PyBuffer_Release(&journal);
+    return writes;
+}
+
 static PyMethodDef cipher_methods[] = {
     {"encrypt", cipher_encrypt, METH_VARARGS, NULL},
     {"decrypt", cipher_decrypt, METH_VARARGS, NULL},
     {"keystream", cipher_keystream, METH_VARARGS, NULL},
     {"begin", cipher_begin, METH_VARARGS, NULL},
+    {"page_place", cipher_page_place, METH_VARARGS, NULL},
+    {"page", cipher_page, METH_VARARGS, NULL},
+    {"header_seal", cipher_header_seal, METH_VARARGS, NULL},
+    {"header_open", cipher_header_open, METH_VARARGS, NULL},
+    {"journal", cipher_journal, METH_VARARGS, NULL},
+    {"journal_writes", cipher_journal_writes, METH_VARARGS, NULL},
     {NULL, NULL, 0, NULL},
 };
 
