@@ -109,7 +109,8 @@ HUNKRAVY_MUST_USE int hunkravy_page_header_open(uint32_t variant, const uint8_t 
  *
  * To commit, with a journal that is empty, and a file and a journal that are synced:
  *
- * 1. Encrypt the changed pages and the next header. Read the header block of the file.
+ * 1. Encrypt the changed pages and the next header. Read the header block of the file. Reserve room for new pages, for
+ *    example with posix_fallocate.
  * 2. hunkravy_journal_init. Write the first HUNKRAVY_JOURNAL_BEGINNING_BYTES of `start` to the journal, and sync it.
  * 3. Write the rest of `start`. Call hunkravy_journal_entry for each write, in this order: the header block of the file
  *    as it is, at place 0; each changed page, at its position; the next header block, at place 0. After each write
@@ -121,8 +122,12 @@ HUNKRAVY_MUST_USE int hunkravy_page_header_open(uint32_t variant, const uint8_t 
  *
  * 1. Read the journal, and the first HUNKRAVY_PAGE_HEADER_BLOCK_BYTES of the file.
  * 2. hunkravy_journal_check. After an error leave both as they are.
- * 3. Sync both. Make the writes that hunkravy_journal_next finds, in their order, and sync the file.
- * 4. Empty the journal, and sync it. Then read the header of the file.
+ * 3. Sync the file. If there are writes and none of them was begun, write the journal after its first
+ *    HUNKRAVY_JOURNAL_BEGINNING_BYTES again: after a sync that failed it may not be on the disk. None was begun if the
+ *    file has the old header block, and each page that it had decrypts and is none of those writes. Otherwise do not
+ *    write it: a crash might tear it.
+ * 4. Sync the journal. Make the writes that hunkravy_journal_next finds, in their order, and sync the file.
+ * 5. Empty the journal, and sync it. Then read the header of the file.
  */
 
 #define HUNKRAVY_JOURNAL_NONCE_BYTES 16

@@ -16,6 +16,8 @@ mod exports;
 #[cfg(feature = "std")]
 pub mod files;
 mod mac;
+#[cfg(feature = "std")]
+mod memory;
 #[cfg(feature = "raf-core")]
 pub mod raf;
 #[cfg(feature = "std")]

@@ -49,10 +49,10 @@ mod error;
 mod io;
 mod journal;
 mod layout;
-mod lock;
 mod probe;
 mod recovery;
 mod rng;
+mod system;
 
 pub use algorithm::{
     Aegis128L, Aegis128X2, Aegis128X4, Aegis256, Aegis256X2, Aegis256X4, Algorithm, AlgorithmId,
@@ -67,21 +67,23 @@ pub use probe::{RafInfo, probe};
 pub use rng::NoRng;
 #[cfg(feature = "raf")]
 pub use rng::OsRng;
+use rng::checked_nonce;
 pub use rng::{DefaultRng, RafRng};
 
 use crate::exports::JOURNAL_NONCE_BYTES;
+use crate::memory::{with_room, zeros};
 use crate::wipe::wipe;
-use alloc::vec;
 use alloc::vec::Vec;
-use changes::{Changes, SealedChanges};
+use changes::{Changes, SealedChanges, copy_of};
 use core::fmt;
 use core::iter::once;
 use core::ops::Range;
-use journal::{JournalSeal, PendingWrite};
-use layout::Layout;
+use journal::{Buffer, JournalSeal, PendingWrite};
+use layout::{HEADER_BLOCK_BYTES, Layout};
 use std::io::ErrorKind;
 #[cfg(feature = "raf")]
 use std::path::Path;
+use system::Process;
 
 /// Returns the default size of a page, in bytes of contents. A page then fills a block of 4,096 bytes: it has 4,048 for
 /// algorithms with nonces of 16 bytes, and 4,032 for the others.
@@ -113,6 +115,13 @@ pub const MAX_SIZE: u64 = 1 << 60;
 ///
 /// After an error in the middle of a commit the file is broken: each function that reads, changes or commits it returns
 /// [`Error::Broken`]. If it has a journal, opening it again gives the contents before the commit or after it.
+///
+/// A file belongs to the process that opened it. After a fork these functions return [`Error::Locked`] in any other process, and
+/// dropping does nothing there.
+///
+/// If memory runs out, the error is [`Error::Io`] of kind [`OutOfMemory`](std::io::ErrorKind::OutOfMemory), and nothing has
+/// changed. Exceptions: the standard library ends the program if it finds none for the text of an error, or for a path while a
+/// file is opened. Opening checks first that there are 64 KiB.
 #[must_use]
 pub struct Raf<A: Algorithm, I: RafIo = FileIo, R: RafRng = DefaultRng, J: RafIo = JournalFile> {
     io: I,
@@ -131,6 +140,10 @@ pub struct Raf<A: Algorithm, I: RafIo = FileIo, R: RafRng = DefaultRng, J: RafIo
     /// The numbers of the pages whose contents are in the first ones of `pages`.
     shown: Range<u64>,
     is_broken: bool,
+    /// The process that opened it.
+    owner: Process,
+    /// The number of the batch that it is in, or was in before it was moved elsewhere.
+    batch: u64,
     /// Whether a change has failed since the last commit, so that those in memory may be a part of what was to be
     /// committed.
     is_cut_short: bool,
@@ -181,7 +194,7 @@ impl<A: Algorithm, I: RafIo, R: RafRng, J: RafIo> Raf<A, I, R, J> {
     }
 
     fn read_each(&mut self, buf: &mut [u8], offset: u64) -> Result<usize> {
-        self.check_is_whole()?;
+        self.check_is_usable()?;
         let count = self.size.saturating_sub(offset).min(buf.len() as u64) as usize;
         let (mut number, mut at) = self.place(offset);
         let mut rest = &mut buf[..count];
@@ -217,11 +230,9 @@ impl<A: Algorithm, I: RafIo, R: RafRng, J: RafIo> Raf<A, I, R, J> {
         let was_cut_short = core::mem::replace(&mut self.is_cut_short, true);
         self.change(data, offset)?;
         self.is_cut_short = was_cut_short;
-        let changed = self
-            .changes
-            .len()
-            .saturating_mul(self.layout.chunk_size as usize);
-        if changed > self.buffer_limit {
+        let chunk_size = self.layout.chunk_size as usize;
+        let changed = self.changes.len().saturating_mul(chunk_size);
+        if changed > self.buffer_limit && !self.is_in_batch() {
             self.commit()?;
         }
         Ok(data.len())
@@ -229,7 +240,7 @@ impl<A: Algorithm, I: RafIo, R: RafRng, J: RafIo> Raf<A, I, R, J> {
 
     /// Makes the change of a write, in memory.
     fn change(&mut self, data: &[u8], offset: u64) -> Result<()> {
-        self.check_is_whole()?;
+        self.check_is_usable()?;
         let end = offset
             .checked_add(data.len() as u64)
             .filter(|end| *end <= MAX_SIZE)
@@ -239,14 +250,26 @@ impl<A: Algorithm, I: RafIo, R: RafRng, J: RafIo> Raf<A, I, R, J> {
         }
         let chunk_size = u64::from(self.layout.chunk_size);
         let pages = offset.min(self.size) / chunk_size..end.div_ceil(chunk_size);
-        Changes::check_room(pages.end - pages.start, chunk_size)?;
-        let mut changes = Changes::default();
+        self.change_pages(pages, data, offset)?;
+        self.size = self.size.max(end);
+        Ok(())
+    }
+
+    /// Changes pages, or none of them.
+    fn change_pages(&mut self, pages: Range<u64>, data: &[u8], offset: u64) -> Result<()> {
+        let count = pages.end - pages.start;
+        Changes::check_room(count, u64::from(self.layout.chunk_size))?;
+        let page_bytes = self.layout.page_bytes();
+        let mut changed = with_room(count as usize)?;
         for number in pages {
             self.change_page(number, data, offset)?;
-            changes.set(number, &self.pages[..self.layout.page_bytes()])?;
+            let page = &self.pages[..page_bytes];
+            // One that is changed once more takes no memory.
+            if count > 1 || !self.changes.replace(number, page) {
+                changed.push((number, copy_of(page)?));
+            }
         }
-        self.changes.append(changes);
-        self.size = self.size.max(end);
+        self.changes.append(changed)?;
         Ok(())
     }
 
@@ -257,7 +280,7 @@ impl<A: Algorithm, I: RafIo, R: RafRng, J: RafIo> Raf<A, I, R, J> {
             self.write(&[], size)?;
             return Ok(());
         }
-        self.check_is_whole()?;
+        self.check_is_usable()?;
         self.changes.cut(self.layout.page_count(size));
         self.size = size;
         Ok(())
@@ -266,57 +289,78 @@ impl<A: Algorithm, I: RafIo, R: RafRng, J: RafIo> Raf<A, I, R, J> {
     /// Writes all changes since the last commit. After a crash all of them are there, or none. After `Ok` all of them are there.
     /// If nothing has changed, nothing is written.
     ///
-    /// If the file becomes longer, its size is set first. Then the changed pages and the next header are written to the journal,
-    /// then to the file, and then the journal is emptied. Each step ends with a sync.
+    /// If the file becomes longer, room for its new pages is [reserved](RafIo::reserve) first. Then the changed pages and the next
+    /// header are written to the journal, then to the file, and then the journal is emptied. Each step ends with a sync.
     ///
     /// # Errors
     ///
-    /// - [`Error::Broken`], [`Error::Moved`], [`Error::TooLong`], [`Error::Journal`] if another file has the name of the journal,
-    ///   or an error of the source of random bytes. The changes are still in memory, and only the size of the file may have
-    ///   changed.
-    /// - [`Error::Io`] of reading the file, its path or a size, of setting a size that the file cannot have, or of making the
-    ///   journal: as above.
+    /// - [`Error::Broken`], [`Error::Locked`] after a fork, [`Error::Moved`], [`Error::TooLong`], [`Error::Journal`] if another
+    ///   file has the name of the journal, or an error of the source of random bytes. The changes are still in memory, and only
+    ///   the size of the file may have changed.
+    /// - [`Error::Io`] of reading the file, its path or a size, of reserving room, for example on a full disk, of making the
+    ///   journal, or for want of memory: as above.
     /// - After any other [`Error::Io`] the file is broken. Open it again: with a journal it has the contents before the changes or
     ///   after them.
     pub fn commit(&mut self) -> Result<()> {
         self.is_cut_short = true;
         self.commit_all()?;
-        self.is_cut_short = false;
+        self.is_cut_short = self.is_in_batch();
         Ok(())
     }
 
     fn commit_all(&mut self) -> Result<()> {
-        self.check_is_whole()?;
+        self.check_is_usable()?;
+        if !self.owner.is_this() {
+            return Err(Error::Locked);
+        }
         if self.changes.is_empty() && self.size == self.stored {
             return Ok(());
         }
         let counter = self.counter.checked_add(1).ok_or(Error::TooLong)?;
         let header_block = recovery::read_header_block(&mut self.io)?
             .ok_or(Error::Io(ErrorKind::UnexpectedEof.into()))?;
-        let nonces = self.nonces(self.changes.len() + 1)?;
-        let seal = self.journal_seal()?;
+        let numbers = self.changes.numbers()?;
+        let nonces = self.nonces(numbers.len() + 1)?;
         let next_header = self
             .layout
-            .header(counter, self.size, &nonces[self.changes.len()]);
-        let sealed = SealedChanges::new(&self.layout, &mut self.changes, &nonces);
-        let at_the_start = |bytes| once(PendingWrite { place: 0, bytes });
-        // The first write does not change the file: it shows to which file the journal belongs.
-        let writes: Vec<_> = at_the_start(&header_block[..])
-            .chain(sealed.writes())
-            .chain(at_the_start(&next_header))
-            .collect();
+            .header(counter, self.size, &nonces[numbers.len()]);
+        self.commit_pages(&numbers, &nonces, [&header_block, &next_header])?;
+        self.counter = counter;
+        self.stored = self.size;
+        Ok(())
+    }
+
+    /// Commits the pages of these numbers between two headers. The first of them does not change the file: it shows to which
+    /// file the journal belongs.
+    fn commit_pages(
+        &mut self,
+        numbers: &[u64],
+        nonces: &[A::Nonce],
+        headers: [&[u8; HEADER_BLOCK_BYTES]; 2],
+    ) -> Result<()> {
+        let seal = self.journal_seal()?;
+        let mut buffer = Buffer::new()?;
+        let mut writes = with_room(numbers.len() + headers.len())?;
+        let sealed = SealedChanges::new(&self.layout, &mut self.changes, numbers, nonces);
+        let [first, last] = headers.map(|bytes| PendingWrite { place: 0, bytes });
+        writes.extend(once(first).chain(sealed.writes()).chain(once(last)));
         // Not before: sealing may take long, and the file may be moved meanwhile.
         self.io.check_path()?;
-        make_room(&mut self.io, &writes)?;
+        let new = self.layout.page_place(self.layout.page_count(self.stored));
+        let end = numbers
+            .last()
+            .map_or(0, |number| self.layout.page_place(number + 1));
+        if end > new {
+            // Nobody could make the writes of a journal without room, and so the file would not open.
+            self.io.reserve(new, end)?;
+        }
         self.journal.check_path()?;
         if self.journal.get_size()? != 0 {
             return Err(Error::Journal);
         }
         self.is_broken = true;
-        journal::commit(&mut self.io, &mut self.journal, seal, &writes)?;
+        journal::commit(&mut self.io, &mut self.journal, seal, &writes, &mut buffer)?;
         self.is_broken = false;
-        self.counter = counter;
-        self.stored = self.size;
         drop(writes);
         sealed.forget();
         Ok(())
@@ -339,7 +383,7 @@ impl<A: Algorithm, I: RafIo, R: RafRng, J: RafIo> Raf<A, I, R, J> {
         self.shown = 0..0;
         self.changes.clear();
         self.size = self.stored;
-        self.is_cut_short = false;
+        self.is_cut_short = self.is_in_batch();
     }
 
     /// Returns a cursor at the start of the contents, which is `Read`, `Write` and `Seek`.
@@ -347,8 +391,11 @@ impl<A: Algorithm, I: RafIo, R: RafRng, J: RafIo> Raf<A, I, R, J> {
         RafCursor::new(self)
     }
 
-    fn check_is_whole(&self) -> Result<()> {
-        if self.is_broken {
+    /// Returns an error in another process than that which opened the file, or if the file is broken.
+    fn check_is_usable(&self) -> Result<()> {
+        if !self.owner.seems_this() {
+            Err(Error::Locked)
+        } else if self.is_broken {
             Err(Error::Broken)
         } else {
             Ok(())
@@ -382,10 +429,8 @@ impl<A: Algorithm, I: RafIo, R: RafRng, J: RafIo> Raf<A, I, R, J> {
             self.pages[..page_bytes].copy_from_slice(page);
             return Ok(1);
         }
-        let unchanged = self.changes.first_from(number) - number;
-        let count = most
-            .min(unchanged)
-            .min((self.pages.len() / page_bytes) as u64) as usize;
+        let most = most.min((self.pages.len() / page_bytes) as u64);
+        let count = self.changes.unchanged_from(number, most) as usize;
         let pages = &mut self.pages[..count * page_bytes];
         self.io.read_at(pages, self.layout.page_place(number))?;
         for (page, number) in pages.chunks_exact_mut(page_bytes).zip(number..) {
@@ -424,28 +469,19 @@ impl<A: Algorithm, I: RafIo, R: RafRng, J: RafIo> Raf<A, I, R, J> {
     fn nonces(&mut self, count: usize) -> Result<Vec<A::Nonce>> {
         let mut nonce = A::Nonce::default();
         let bytes = nonce.as_ref().len();
-        let mut random = vec![0; count * bytes];
+        let mut random = zeros(count * bytes)?;
         self.rng.fill(&mut random)?;
-        let of_bytes = |bytes: &[u8]| {
+        let mut nonces = with_room(count)?;
+        for bytes in random.chunks_exact(bytes) {
             nonce.as_mut().copy_from_slice(bytes);
-            nonce
-        };
-        Ok(random.chunks_exact(bytes).map(of_bytes).collect())
+            nonces.push(checked_nonce::<A>(nonce)?);
+        }
+        Ok(nonces)
     }
 }
 
-/// Makes the file as long as the writes make it. If it cannot be so long, this fails before there is a journal, whose writes
-/// nobody could make, so that the file would not open.
-fn make_room(io: &mut impl RafIo, writes: &[PendingWrite<'_>]) -> Result<()> {
-    let end_of = |write: &PendingWrite<'_>| write.place + write.bytes.len() as u64;
-    let end = writes.iter().map(end_of).max().unwrap_or(0);
-    if end > io.get_size()? {
-        io.set_size(end)?;
-    }
-    Ok(())
-}
-
-/// Commits the changes, and ignores the error, unless a change has failed or the thread panics.
+/// Commits the changes, and ignores the error, unless a change has failed or the thread panics. A commit in another process than
+/// that which opened the file does nothing.
 impl<A: Algorithm, I: RafIo, R: RafRng, J: RafIo> Drop for Raf<A, I, R, J> {
     fn drop(&mut self) {
         if !self.is_cut_short && !std::thread::panicking() {
@@ -501,6 +537,27 @@ mod tests {
         fn fill(&mut self, buf: &mut [u8]) -> Result<()> {
             buf.fill(0);
             Ok(())
+        }
+    }
+
+    /// The counter of commits does not begin again.
+    #[test]
+    fn the_last_commit() {
+        let header = PageHeader {
+            page_size: 256,
+            ..PageHeader::default()
+        };
+        let layout = Layout::<Aegis256>::of(&[7; 32], &header);
+        for (counter, is_last) in [(u64::MAX, true), (u64::MAX - 1, false)] {
+            let header_block = layout.header(counter, 0, &[1; 32]).to_vec();
+            let builder = RafBuilder::<Aegis256>::with_rng(Zeros).journal(NoJournal);
+            let mut file = builder.open(Header(header_block), &[7; 32]).unwrap();
+            file.write(&[1], 0).unwrap();
+            let committed = file.commit();
+            assert_eq!(matches!(committed, Err(Error::TooLong)), is_last);
+            // This storage cannot grow.
+            assert_eq!(matches!(committed, Err(Error::Io(_))), !is_last);
+            file.discard();
         }
     }
 

@@ -402,6 +402,19 @@ fn stream_struct_has_the_size_of_the_header() {
     );
 }
 
+/// Cargo links the library into a program once: two versions of the package are an error.
+#[test]
+fn the_library_is_linked_once() {
+    let mut cargo = Command::new(env!("CARGO"));
+    cargo.args(["metadata", "--offline", "--no-deps", "--format-version=1"]);
+    let output = cargo
+        .current_dir(env!("CARGO_MANIFEST_DIR"))
+        .output()
+        .unwrap();
+    let metadata = String::from_utf8(output.stdout).unwrap();
+    assert!(metadata.contains("\"links\":\"hunkravy\""), "{metadata}");
+}
+
 /// The page's samples are tests of the crate's documentation, so it has to have some.
 #[test]
 fn samples_of_the_page() {

@@ -9,7 +9,7 @@ use std::fs::{self, File};
 use std::io::{ErrorKind, Read, Seek, SeekFrom, Write};
 use std::path::Path;
 use std::slice;
-use std::sync::atomic::{AtomicUsize, Ordering::SeqCst};
+use std::sync::atomic::{AtomicBool, AtomicUsize, Ordering::SeqCst};
 
 /// The lengths of a page's text, of a page, and of a record of a whole piece.
 const CHUNK_BYTES: usize = 1009;
@@ -19,8 +19,14 @@ const RECORD_BYTES: usize = 65_536 + 37;
 const MESSAGES: [usize; 3] = [1100, 200_000, 500_000];
 const GROWN: [usize; 5] = [1137, 2 * RECORD_BYTES, 200_037, 2 * 200_037, 500_037];
 
+/// Whether all memory is looked at that is freed.
+static LOOKS_AT_ALL: AtomicBool = AtomicBool::new(false);
+
 /// Whether an allocation is that of a text. No others of the program have these lengths.
 fn is_of_text(layout: Layout) -> bool {
+    if LOOKS_AT_ALL.load(SeqCst) {
+        return true;
+    }
     let lengths = [CHUNK_BYTES, PAGE_BYTES, READ_BYTES, RECORD_BYTES];
     let is_one = lengths.contains(&layout.size()) || GROWN.contains(&layout.size());
     layout.align() == 1 && is_one
@@ -169,6 +175,22 @@ fn longer_records() {
     assert_eq!(FREED.load(SeqCst) - freed, GROWN.len() + 1);
 }
 
+/// Seals a message into a vector that has to grow for it, from no room to nearly enough: no memory that it frees holds a part of
+/// the message.
+fn sealed_into_short_vectors() {
+    const MESSAGE: [u8; 1100] = [MARK; 1100];
+    for room in (0..1200).step_by(50) {
+        let mut sealer = Sealer::new(&[7; 32], &[1; 24], b"").unwrap();
+        let mut stream = Vec::with_capacity(room);
+        LOOKS_AT_ALL.store(true, SeqCst);
+        sealer.seal_next(&MESSAGE, &mut stream).unwrap();
+        sealer.seal_last(&MESSAGE, &mut stream).unwrap();
+        LOOKS_AT_ALL.store(false, SeqCst);
+        assert_eq!(stream.len(), 2 * 1137);
+    }
+    assert_eq!(UNWIPED.load(SeqCst), 0);
+}
+
 /// A reader of bytes that then returns counts of bytes which it does not write.
 struct Lies<'a>(&'a [u8]);
 
@@ -196,13 +218,15 @@ fn record_of_lies() {
 fn of_a_sealed_file(path: &Path) {
     for done in [seal, unseal] {
         let most = most_of(|| done(path));
-        assert!(most > RECORD_BYTES && most < RECORD_BYTES + 5_000, "{most}");
+        let expected = RECORD_BYTES..RECORD_BYTES + 5_000;
+        assert!(expected.contains(&most), "{most}");
     }
     for count in [0, 100, 100_000, 1_000_000] {
         announced(path, count);
         let most = most_of(|| read_announced(path));
         assert!(most < RECORD_BYTES + 3 * count + 5_000, "{most} of {count}");
     }
+    sealed_into_short_vectors();
     longer_records();
     record_of_lies();
     fs::remove_file(path).unwrap();

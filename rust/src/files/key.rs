@@ -28,7 +28,12 @@ const MOST_BYTES: usize = 66;
 pub fn read_key(path: impl AsRef<Path>) -> io::Result<Key> {
     let mut bytes = Wiped([0; MOST_BYTES + 1]);
     let count = read_all(&mut File::open(path)?, &mut bytes.0)?;
-    let no_key = || io::Error::new(ErrorKind::InvalidData, "not a key file: expected 64 hexadecimal digits");
+    let no_key = || {
+        io::Error::new(
+            ErrorKind::InvalidData,
+            "not a key file: expected 64 hexadecimal digits",
+        )
+    };
     key_of(&bytes.0[..count]).ok_or_else(no_key)
 }
 
@@ -69,9 +74,11 @@ fn digit(byte: u8) -> Option<u8> {
 
 #[cfg(test)]
 mod tests {
-    use super::{key_of, read_all};
+    use super::{key_of, read_all, read_key};
     use alloc::format;
+    use core::mem::MaybeUninit;
     use std::io::{self, ErrorKind, Read};
+    use std::path::Path;
 
     #[test]
     fn key_is_64_digits_and_white_space() {
@@ -110,6 +117,37 @@ mod tests {
         let mut bytes = digits.into_bytes();
         bytes[5] = 0xff;
         assert_eq!(key_of(&bytes), None);
+    }
+
+    /// Returns whether memory below the stack, where a function has been, holds these bytes.
+    #[inline(never)]
+    fn is_left(bytes: &[u8]) -> bool {
+        let below = MaybeUninit::<[u8; 65_536]>::uninit();
+        let first = core::hint::black_box(below.as_ptr()).cast::<u8>();
+        let is_at = |at: usize| {
+            // SAFETY: the array has these bytes, whatever was left in them.
+            (0..bytes.len()).all(|by| unsafe { first.add(at + by).read_volatile() } == bytes[by])
+        };
+        (0..65_536 - bytes.len()).any(is_at)
+    }
+
+    /// Reads a key file, below 4,096 bytes of stack that the search may overwrite.
+    #[inline(never)]
+    fn read_below(path: &Path) -> [u8; 32] {
+        let room = core::hint::black_box([0u8; 4096]);
+        let key = read_key(path).unwrap();
+        core::hint::black_box(room);
+        key
+    }
+
+    /// Nothing of the digits is left on the stack.
+    #[test]
+    fn the_digits_of_a_key() {
+        let path = std::env::temp_dir().join(format!("hunkravy-key-{}", std::process::id()));
+        std::fs::write(&path, "c7".repeat(32)).unwrap();
+        assert_eq!(read_below(&path), [0xc7; 32]);
+        assert!(!is_left(&b"c7".repeat(8)));
+        std::fs::remove_file(&path).unwrap();
     }
 
     /// A file that gives a byte a read, is interrupted before each, and then fails.

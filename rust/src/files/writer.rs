@@ -1,10 +1,10 @@
 //! Sealing a file.
 
 use super::{CONTEXT, HEAD_BYTES, Key, PIECE_BYTES};
+use crate::memory::zeros;
 use crate::random;
 use crate::records::{Prefix, RECORD_BYTES, RECORD_HEAD_BYTES, Sealer};
 use crate::wipe::Wiped;
-use alloc::vec;
 use alloc::vec::Vec;
 use core::fmt;
 use std::io::{self, Write};
@@ -46,8 +46,10 @@ impl<W: Write> SealedWriter<W> {
     ///
     /// # Errors
     ///
-    /// An error of the system's source of random bytes, or of the inner writer.
+    /// An error of the system's source of random bytes or of the inner writer, or one of kind
+    /// [`OutOfMemory`](io::ErrorKind::OutOfMemory).
     pub fn new(mut inner: W, key: &Key) -> io::Result<Self> {
+        let record = Wiped(zeros(RECORD_BYTES + PIECE_BYTES)?);
         let mut prefix = Prefix::default();
         random::fill(&mut random::open()?, &mut prefix)?;
         let sealer = Sealer::new(key, &prefix, CONTEXT)?;
@@ -58,7 +60,7 @@ impl<W: Write> SealedWriter<W> {
         Ok(Self {
             inner,
             sealer,
-            record: Wiped(vec![0; RECORD_BYTES + PIECE_BYTES]),
+            record,
             filled: 0,
             has_failed: false,
         })
@@ -81,8 +83,8 @@ impl<W: Write> SealedWriter<W> {
         if self.filled > 0 {
             self.write_record()?;
         }
-        let mut last = Vec::new();
-        self.sealer.seal_last(&[], &mut last)?;
+        let mut last = [0; RECORD_BYTES];
+        self.sealer.seal_last_in_place(&mut last)?;
         self.inner.write_all(&last)?;
         self.inner.flush()?;
         Ok(self.inner)

@@ -1,20 +1,107 @@
 //! Changes that are committed together, or discarded.
 
+use super::changes::Changes;
 use super::{Algorithm, Error, Raf, RafIo, RafRng};
+use alloc::vec::Vec;
+use std::io::ErrorKind;
+use std::sync::{Mutex, MutexGuard, PoisonError};
 
-/// A batch that is being made. Unless it was committed, dropping it discards its changes.
+/// The number of the last batch, and the numbers of those that are being made, in all threads. A file knows its batch by the
+/// number, also if the program has moved the file elsewhere.
+struct Batches {
+    last: u64,
+    open: Vec<u64>,
+}
+
+static BATCHES: Mutex<Batches> = Mutex::new(Batches {
+    last: 0,
+    open: Vec::new(),
+});
+
+fn batches() -> MutexGuard<'static, Batches> {
+    BATCHES.lock().unwrap_or_else(PoisonError::into_inner)
+}
+
+/// Begins a batch, and returns its number.
+fn begin() -> Result<u64, Error> {
+    let mut batches = batches();
+    let reserved = batches.open.try_reserve(1);
+    reserved.map_err(|_| Error::Io(ErrorKind::OutOfMemory.into()))?;
+    batches.last += 1;
+    let number = batches.last;
+    batches.open.push(number);
+    Ok(number)
+}
+
+/// What a batch inside another goes back to if it fails.
+struct Savepoint {
+    changes: Changes,
+    size: u64,
+    /// The counter of the last commit: one in the inner batch has made the savepoint void.
+    counter: u64,
+}
+
+/// A batch that is being made. Unless it was completed, dropping it discards its changes.
 struct Batch<'a, A: Algorithm, I: RafIo, R: RafRng, J: RafIo> {
     file: &'a mut Raf<A, I, R, J>,
-    /// The limit on changes in memory, which the batch suspends.
-    limit: usize,
-    is_committed: bool,
+    number: u64,
+    /// A batch inside another has one, and the same number.
+    savepoint: Option<Savepoint>,
+    is_complete: bool,
+}
+
+impl<'a, A: Algorithm, I: RafIo, R: RafRng, J: RafIo> Batch<'a, A, I, R, J> {
+    /// Begins a batch, or one inside another.
+    fn begin(file: &'a mut Raf<A, I, R, J>) -> Result<Self, Error> {
+        file.check_is_usable()?;
+        let savepoint = if file.is_in_batch() {
+            Some(file.savepoint()?)
+        } else {
+            file.commit()?;
+            file.batch = begin()?;
+            // So dropping the file commits no part of the batch.
+            file.is_cut_short = true;
+            None
+        };
+        Ok(Batch {
+            number: file.batch,
+            file,
+            savepoint,
+            is_complete: false,
+        })
+    }
+
+    /// Commits the changes, unless an outer batch will.
+    fn complete(&mut self) -> Result<(), Error> {
+        if !self.is_of_file() {
+            return Err(Error::Moved);
+        }
+        if self.savepoint.is_none() {
+            self.file.commit()?;
+            self.file.is_cut_short = false;
+        }
+        self.is_complete = true;
+        Ok(())
+    }
+
+    /// Returns whether the file that was put into the batch is still in its place.
+    fn is_of_file(&self) -> bool {
+        self.file.batch == self.number
+    }
 }
 
 impl<A: Algorithm, I: RafIo, R: RafRng, J: RafIo> Drop for Batch<'_, A, I, R, J> {
     fn drop(&mut self) {
-        self.file.buffer_limit = self.limit;
-        if !self.is_committed {
-            self.file.discard();
+        if !self.file.owner.is_this() {
+            // A thread of the other process may have held the list, for ever in this one.
+            return;
+        }
+        let savepoint = self.savepoint.take();
+        if savepoint.is_none() {
+            batches().open.retain(|open| *open != self.number);
+        }
+        if self.is_of_file() && !self.is_complete {
+            self.file.go_back(savepoint);
         }
     }
 }
@@ -26,10 +113,17 @@ impl<A: Algorithm, I: RafIo, R: RafRng, J: RafIo> Raf<A, I, R, J> {
     /// even past the [limit](super::RafBuilder::buffer_limit). A [`commit`](Raf::commit) in `changes` commits what was changed
     /// until then.
     ///
+    /// A batch inside another commits nothing. If it fails, its own changes are discarded, and the outer one goes on. It copies the
+    /// changes of the outer one.
+    ///
     /// # Errors
     ///
     /// The error of `changes`, or one of [`commit`](Raf::commit). Then the contents are those before the batch, unless the file
     /// is broken.
+    ///
+    /// [`Error::Moved`] if `changes` has put another `Raf` in the place of this one, for example with [`core::mem::swap`]. Then the
+    /// batch neither commits nor discards. The changes stay in the file that they were made in, and dropping it does not commit
+    /// them.
     ///
     /// ```
     /// # use hunkravy::raf::{Aegis256, Error, Raf};
@@ -47,16 +141,34 @@ impl<A: Algorithm, I: RafIo, R: RafRng, J: RafIo> Raf<A, I, R, J> {
         &mut self,
         changes: impl FnOnce(&mut Self) -> core::result::Result<T, E>,
     ) -> core::result::Result<T, E> {
-        self.commit()?;
-        let limit = core::mem::replace(&mut self.buffer_limit, usize::MAX);
-        let mut batch = Batch {
-            file: self,
-            limit,
-            is_committed: false,
-        };
+        let mut batch = Batch::begin(self)?;
         let made = changes(batch.file)?;
-        batch.file.commit()?;
-        batch.is_committed = true;
+        batch.complete()?;
         Ok(made)
+    }
+
+    /// Returns whether the file is in a batch that is being made.
+    pub(super) fn is_in_batch(&self) -> bool {
+        self.batch != 0 && self.owner.seems_this() && batches().open.contains(&self.batch)
+    }
+
+    fn savepoint(&self) -> Result<Savepoint, Error> {
+        Ok(Savepoint {
+            changes: self.changes.try_clone()?,
+            size: self.size,
+            counter: self.counter,
+        })
+    }
+
+    /// Discards the changes since a savepoint, or all since the last commit.
+    fn go_back(&mut self, savepoint: Option<Savepoint>) {
+        match savepoint {
+            Some(savepoint) if savepoint.counter == self.counter => {
+                self.shown = 0..0;
+                self.changes = savepoint.changes;
+                self.size = savepoint.size;
+            }
+            _ => self.discard(),
+        }
     }
 }

@@ -2,12 +2,15 @@
 
 use super::changes::Changes;
 use super::io::{Beside, FileIo, JournalChoice, JournalFile, RafIo, journal_path};
+use super::journal::empty;
 use super::layout::{ID_BYTES, Layout, is_chunk_size};
 use super::recovery::recover;
-use super::rng::{DefaultRng, RafRng};
+use super::rng::{DefaultRng, RafRng, checked_nonce};
+use super::system::Process;
 use super::{Algorithm, Error, Raf, Result, default_chunk_size};
 use crate::exports::PageHeader;
-use alloc::vec;
+use crate::memory::zeros;
+use alloc::vec::Vec;
 use core::marker::PhantomData;
 use std::io;
 use std::path::Path;
@@ -137,16 +140,17 @@ impl<A: Algorithm, R: RafRng, J: JournalChoice> RafBuilder<A, R, J> {
         io.lock()?;
         builder.journal.lock()?;
         let header = recover::<A>(&mut io, &mut builder.journal, key)?;
-        Ok(builder.over(io, key, &header))
+        let layout = Layout::of(key, &header);
+        let (pages, owner) = (room_for_reads(&layout)?, Process::this()?);
+        Ok(builder.over(io, layout, pages, owner, &header))
     }
 
     /// Creates a file at a path. The file, its header and its name are then synced.
     ///
     /// # Errors
     ///
-    /// Those of [`create`](Self::create). After an error that changes nothing, an old file is as it was, and there is no new file.
-    /// Exceptions, which leave an empty new file: a journal, another name or a lock of the file appeared just after it was
-    /// created; the journal that was set is locked, not empty, or moved.
+    /// Those of [`create`](Self::create). After an error that changes nothing, an old file is as it was. After any error there is
+    /// no new file, unless another program has opened it meanwhile, or given it another name.
     pub fn create_file(
         mut self,
         path: impl AsRef<Path>,
@@ -155,10 +159,13 @@ impl<A: Algorithm, R: RafRng, J: JournalChoice> RafBuilder<A, R, J> {
         let path = path.as_ref();
         let draws = self.draw()?;
         check_no_journal(path)?;
-        let io = if self.truncate {
-            FileIo::create(path)?
-        } else {
-            FileIo::create_new(path)?
+        let io = match FileIo::create_new(path) {
+            Err(Error::Io(error))
+                if self.truncate && error.kind() == io::ErrorKind::AlreadyExists =>
+            {
+                FileIo::create(path)?
+            }
+            made => made?,
         };
         self.begin(io, key, &draws)
     }
@@ -194,6 +201,7 @@ impl<A: Algorithm, R: RafRng, J: JournalChoice> RafBuilder<A, R, J> {
         };
         self.rng.fill(&mut draws.id)?;
         self.rng.fill(A::Nonce::as_mut(&mut draws.nonce))?;
+        draws.nonce = checked_nonce::<A>(draws.nonce)?;
         Ok(draws)
     }
 
@@ -218,24 +226,33 @@ impl<A: Algorithm, R: RafRng, J: JournalChoice> RafBuilder<A, R, J> {
             counter: 0,
             contents_len: 0,
         };
-        let header_block = Layout::<A>::of(key, &header).header(0, 0, &draws.nonce);
-        builder.journal.sync()?;
+        let layout = Layout::of(key, &header);
+        let (pages, owner) = (room_for_reads(&layout)?, Process::this()?);
+        let header_block = layout.header(0, 0, &draws.nonce);
+        empty(&mut builder.journal)?;
         io.set_size(0)?;
         io.write_at(&header_block, 0)?;
         io.sync()?;
-        Ok(builder.over(io, key, &header))
+        io.check_path()?;
+        Ok(builder.over(io, layout, pages, owner, &header))
     }
 }
 
 impl<A: Algorithm, R: RafRng, J: RafIo> RafBuilder<A, R, J> {
     /// The open file that has this header.
-    fn over<I: RafIo>(self, io: I, key: &A::Key, header: &PageHeader) -> Raf<A, I, R, J> {
-        let layout = Layout::<A>::of(key, header);
+    fn over<I: RafIo>(
+        self,
+        io: I,
+        layout: Layout<A>,
+        pages: Vec<u8>,
+        owner: Process,
+        header: &PageHeader,
+    ) -> Raf<A, I, R, J> {
         Raf {
             io,
             journal: self.journal,
             rng: self.rng,
-            pages: vec![0; layout.pages_in_a_read() * layout.page_bytes()],
+            pages,
             shown: 0..0,
             layout,
             counter: header.counter,
@@ -244,9 +261,16 @@ impl<A: Algorithm, R: RafRng, J: RafIo> RafBuilder<A, R, J> {
             changes: Changes::default(),
             buffer_limit: self.buffer_limit,
             is_broken: false,
+            owner,
+            batch: 0,
             is_cut_short: false,
         }
     }
+}
+
+/// Takes the memory for the pages of one read.
+fn room_for_reads<A: Algorithm>(layout: &Layout<A>) -> io::Result<Vec<u8>> {
+    zeros(layout.pages_in_a_read() * layout.page_bytes())
 }
 
 /// Returns an error if a file that is to be created has a journal: [`Error::Locked`] if the file is open elsewhere. Its

@@ -3,28 +3,31 @@
 use super::Algorithm;
 use super::journal::PendingWrite;
 use super::layout::Layout;
+use crate::memory::with_room;
 use crate::wipe::Wiped;
-use alloc::boxed::Box;
 use alloc::vec::Vec;
 use core::hint::black_box;
 use core::mem;
-use std::collections::BTreeMap;
+use std::collections::HashMap;
 use std::io::{self, ErrorKind};
 
 /// The number of bytes that a page takes beside its contents, at most.
 const ADDED_BYTES: u64 = 192;
 
-/// Returns a vector with room for this number of bytes, or an error if memory runs out.
-fn with_room(bytes: usize) -> io::Result<Vec<u8>> {
-    let mut vector = Vec::new();
-    let reserved = vector.try_reserve_exact(bytes);
-    reserved.map_err(|_| ErrorKind::OutOfMemory)?;
-    Ok(vector)
+/// A page with its nonce in front of it and its tag after it. It is overwritten when it is dropped.
+pub type Page = Wiped<Vec<u8>>;
+
+/// Returns a copy of a page, or an error if memory runs out.
+pub fn copy_of(page: &[u8]) -> io::Result<Page> {
+    let mut copy = with_room(page.len())?;
+    copy.extend_from_slice(page);
+    Ok(Wiped(copy))
 }
 
-/// Changed pages by their numbers, each with room for its nonce and its tag. They are overwritten when they are dropped.
+/// Changed pages by their numbers, each with room for its nonce and its tag. A tree would be sorted, but takes its memory
+/// without a way to fail.
 #[derive(Default)]
-pub struct Changes(BTreeMap<u64, Wiped<Box<[u8]>>>);
+pub struct Changes(HashMap<u64, Page>);
 
 impl Changes {
     /// Returns whether no page was changed.
@@ -42,49 +45,64 @@ impl Changes {
         self.0.get(&number).map(|page| &*page.0)
     }
 
-    /// Returns the number of the first changed page from this number on, or the greatest number if there is none.
-    pub fn first_from(&self, number: u64) -> u64 {
-        let next = self.0.range(number..).next();
-        next.map_or(u64::MAX, |(number, _)| *number)
+    /// Returns how many pages from this number on are unchanged, at most this many.
+    pub fn unchanged_from(&self, number: u64, most: u64) -> u64 {
+        if self.is_empty() {
+            return most;
+        }
+        let is_changed = |count: &u64| self.0.contains_key(&(number + count));
+        (0..most).find(is_changed).unwrap_or(most)
+    }
+
+    /// Returns the numbers of the pages, the lowest first.
+    pub fn numbers(&self) -> io::Result<Vec<u64>> {
+        let mut numbers = with_room(self.len())?;
+        numbers.extend(self.0.keys());
+        numbers.sort_unstable();
+        Ok(numbers)
     }
 
     /// Returns an error if there is no memory for this number of pages of contents of this length.
     pub fn check_room(pages: u64, contents_bytes: u64) -> io::Result<()> {
         let bytes = pages.saturating_mul(contents_bytes + ADDED_BYTES);
         let bytes = usize::try_from(bytes).map_err(|_| ErrorKind::OutOfMemory)?;
-        black_box(with_room(bytes)?);
+        black_box(with_room::<u8>(bytes)?);
         Ok(())
     }
 
-    /// Keeps a copy of a page. Returns an error if memory runs out.
-    pub fn set(&mut self, number: u64, page: &[u8]) -> io::Result<()> {
-        let mut copy = with_room(page.len())?;
-        copy.extend_from_slice(page);
-        self.0.insert(number, Wiped(copy.into_boxed_slice()));
+    /// Replaces a page that was changed. Returns whether there is one.
+    pub fn replace(&mut self, number: u64, page: &[u8]) -> bool {
+        let own = self.0.get_mut(&number);
+        own.map(|own| own.0.copy_from_slice(page)).is_some()
+    }
+
+    /// Takes over pages, in place of those of the same numbers. If memory runs out nothing has changed.
+    pub fn append(&mut self, pages: Vec<(u64, Page)>) -> io::Result<()> {
+        let reserved = self.0.try_reserve(pages.len());
+        reserved.map_err(|_| ErrorKind::OutOfMemory)?;
+        self.0.extend(pages);
         Ok(())
     }
 
-    /// Takes over other changes, in place of those of the same pages.
-    pub fn append(&mut self, other: Changes) {
-        // `BTreeMap::append` would go through all pages.
-        self.0.extend(other.0);
+    /// Returns a copy of all pages.
+    pub fn try_clone(&self) -> io::Result<Self> {
+        let mut pages = with_room(self.len())?;
+        for (number, page) in &self.0 {
+            pages.push((*number, copy_of(&page.0)?));
+        }
+        let mut copy = Changes::default();
+        copy.append(pages)?;
+        Ok(copy)
     }
 
     /// Forgets the pages from this number on.
     pub fn cut(&mut self, number: u64) {
-        self.0.split_off(&number);
+        self.0.retain(|own, _| *own < number);
     }
 
     /// Forgets all pages.
     pub fn clear(&mut self) {
         self.0.clear();
-    }
-
-    /// Returns the pages and their numbers, the lowest first.
-    fn iter_mut(&mut self) -> impl Iterator<Item = (u64, &mut [u8])> {
-        self.0
-            .iter_mut()
-            .map(|(number, page)| (*number, &mut *page.0))
     }
 }
 
@@ -92,35 +110,45 @@ impl Changes {
 pub struct SealedChanges<'c, A: Algorithm> {
     layout: &'c Layout<A>,
     changes: &'c mut Changes,
-    /// How many of the pages are sealed.
-    count: usize,
+    /// The numbers of the pages that are sealed, the lowest first.
+    numbers: &'c [u64],
 }
 
 impl<'c, A: Algorithm> SealedChanges<'c, A> {
-    /// Seals each page with one of these nonces.
-    pub fn new(layout: &'c Layout<A>, changes: &'c mut Changes, nonces: &[A::Nonce]) -> Self {
+    /// Seals each page with one of these nonces. `numbers` are those of all changes.
+    pub fn new(
+        layout: &'c Layout<A>,
+        changes: &'c mut Changes,
+        numbers: &'c [u64],
+        nonces: &[A::Nonce],
+    ) -> Self {
         let mut sealed = SealedChanges {
             layout,
             changes,
-            count: 0,
+            numbers: &[],
         };
-        for ((number, page), nonce) in sealed.changes.iter_mut().zip(nonces) {
-            layout.seal(number, nonce, page);
-            sealed.count += 1;
+        for (at, (number, nonce)) in numbers.iter().zip(nonces).enumerate() {
+            if let Some(page) = sealed.changes.0.get_mut(number) {
+                layout.seal(*number, nonce, &mut page.0);
+            }
+            sealed.numbers = &numbers[..=at];
         }
         sealed
     }
 
     /// Returns the writes of the pages, the lowest first.
     pub fn writes(&self) -> impl Iterator<Item = PendingWrite<'_>> {
-        self.changes.0.iter().map(|(number, page)| PendingWrite {
-            place: self.layout.page_place(*number),
-            bytes: &page.0,
+        self.numbers.iter().filter_map(|number| {
+            Some(PendingWrite {
+                place: self.layout.page_place(*number),
+                bytes: self.changes.get(*number)?,
+            })
         })
     }
 
     /// Forgets the pages, which were written. They are not overwritten, since they are encrypted.
-    pub fn forget(self) {
+    pub fn forget(mut self) {
+        self.numbers = &[];
         for page in self.changes.0.values_mut() {
             drop(mem::take(&mut page.0));
         }
@@ -130,8 +158,9 @@ impl<'c, A: Algorithm> SealedChanges<'c, A> {
 
 impl<A: Algorithm> Drop for SealedChanges<'_, A> {
     fn drop(&mut self) {
-        for (number, page) in self.changes.iter_mut().take(self.count) {
-            let is_opened = self.layout.open(number, page);
+        for number in self.numbers {
+            let page = self.changes.0.get_mut(number);
+            let is_opened = page.is_some_and(|page| self.layout.open(*number, &mut page.0));
             // Otherwise a later commit would write an erased page.
             assert!(is_opened, "nobody else has the page");
         }

@@ -13,7 +13,7 @@ impl<A: Algorithm, I: RafIo, R: RafRng, J: RafIo> Raf<A, I, R, J> {
     ///
     /// # Errors
     ///
-    /// [`Error::Io`] or [`Error::Broken`].
+    /// [`Error::Io`], [`Error::Broken`], or [`Error::Locked`] after a fork.
     pub fn commitment(&mut self) -> Result<[u8; 32]> {
         Ok(self.commitment_mac()?.finalize())
     }
@@ -29,7 +29,7 @@ impl<A: Algorithm, I: RafIo, R: RafRng, J: RafIo> Raf<A, I, R, J> {
     }
 
     fn commitment_mac(&mut self) -> Result<Mac<A, 32>> {
-        self.check_is_whole()?;
+        self.check_is_usable()?;
         let nonce = commitment_nonce::<A>();
         let mut mac = Mac::<A, 32>::new_with_nonce(&self.layout.key, &nonce);
         mac.update(&self.layout.plaintext_header());

@@ -28,7 +28,7 @@ impl<A: Algorithm, I: RafIo, R: RafRng, J: RafIo> Write for RafCursor<'_, A, I, 
     /// Writes with [`Raf::write`]. Writing no bytes past the end does not extend the contents.
     fn write(&mut self, data: &[u8]) -> io::Result<usize> {
         if data.is_empty() {
-            self.file.check_is_whole()?;
+            self.file.check_is_usable()?;
             return Ok(0);
         }
         let count = self.file.write(data, self.offset)?;
@@ -36,8 +36,11 @@ impl<A: Algorithm, I: RafIo, R: RafRng, J: RafIo> Write for RafCursor<'_, A, I, 
         Ok(count)
     }
 
-    /// Commits the changes with [`Raf::commit`].
+    /// Commits the changes with [`Raf::commit`]. In a [batch](Raf::batch) they wait for its end.
     fn flush(&mut self) -> io::Result<()> {
+        if self.file.is_in_batch() {
+            return Ok(self.file.check_is_usable()?);
+        }
         Ok(self.file.commit()?)
     }
 }

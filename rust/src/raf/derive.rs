@@ -6,6 +6,9 @@ use crate::exports::{AEGIS128L, AEGIS256};
 /// What the input of each derivation begins with.
 const DOMAIN: &[u8; 24] = b"hunkravy raf file key v1";
 
+/// The most bytes of a context, for keys of 16 bytes.
+const MAX_CONTEXT_BYTES: usize = 120;
+
 /// Derives the key of a file, or of a family of files, from a master key. Both keys have `N` bytes: 16 or 32. Another length does
 /// not compile.
 ///
@@ -34,15 +37,18 @@ pub fn derive_key<const N: usize>(master_key: &[u8; N], context: &[u8]) -> Resul
 /// Writes the key of a context to `key`, which has the length of the master key.
 pub(super) fn derive(master_key: &[u8], context: &[u8], key: &mut [u8]) -> Result<()> {
     let (variant, most) = if key.len() == 16 {
-        (&AEGIS128L, 120)
+        (&AEGIS128L, MAX_CONTEXT_BYTES)
     } else {
         (&AEGIS256, 72)
     };
     if context.len() > most {
         return Err(Error::ContextTooLong);
     }
-    let input = [DOMAIN.as_slice(), context].concat();
-    let answer = variant.mac(&input, &[0; 32][..key.len()], master_key, key);
+    let mut input = [0; DOMAIN.len() + MAX_CONTEXT_BYTES];
+    input[..DOMAIN.len()].copy_from_slice(DOMAIN);
+    input[DOMAIN.len()..][..context.len()].copy_from_slice(context);
+    let input = &input[..DOMAIN.len() + context.len()];
+    let answer = variant.mac(input, &[0; 32][..key.len()], master_key, key);
     assert_eq!(answer, Ok(()), "the lengths are right");
     Ok(())
 }

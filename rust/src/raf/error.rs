@@ -23,10 +23,10 @@ pub enum Error {
     ContextTooLong,
     /// The commitment of the file is not the expected one.
     Commitment,
-    /// The file is open elsewhere, in this program or in another.
+    /// The file is open elsewhere, in this process or in another. After a fork it is open in the process that opened it.
     Locked,
     /// The file was renamed, removed or replaced while it was open, or it has several names (hard links). Its journal would not
-    /// be found.
+    /// be found. Or a batch has put another [`Raf`](super::Raf) in its place.
     Moved,
     /// Writing a commit failed. Open the file again.
     Broken,
@@ -50,7 +50,7 @@ impl fmt::Display for Error {
                 "the context is longer than 120 bytes (16-byte key) or 72 (32-byte key)"
             }
             Error::Commitment => "the commitment is not the expected one",
-            Error::Locked => "the file is already open, here or in another program",
+            Error::Locked => "the file is already open, here or in another process",
             Error::Moved => "the file was renamed, removed or replaced, or has several hard links",
             Error::Broken => "a commit failed: open the file again",
         };

@@ -1,14 +1,15 @@
 //! Storages of a file and of its journal.
 
-use super::lock::{lock, unlock};
+use super::system::{Process, lock, take_room, unlock};
 use super::{Error, Result};
+use crate::memory::{check_memory, zeros};
 use alloc::vec::Vec;
-use std::ffi::OsString;
+use std::ffi::{OsStr, OsString};
 use std::fs::{self, File, Metadata, OpenOptions, Permissions};
 use std::io;
+use std::os::unix::ffi::OsStrExt;
 use std::os::unix::fs::{FileExt, MetadataExt, OpenOptionsExt, PermissionsExt, fchown};
 use std::path::{Path, PathBuf};
-use std::process;
 
 /// A storage: bytes that are read and written at any place.
 ///
@@ -26,6 +27,18 @@ pub trait RafIo {
 
     /// Truncates the bytes to `size`, or extends them with zeros.
     fn set_size(&mut self, size: u64) -> io::Result<()>;
+
+    /// Makes room for writes of bytes from `from` up to `end`, so that they do not fail because the disk is full. The bytes from
+    /// `from` on are not in use, and may become zeros. It is called in a commit, before any bytes are written.
+    ///
+    /// The default extends the storage to `end` bytes if it has fewer.
+    fn reserve(&mut self, from: u64, end: u64) -> io::Result<()> {
+        let _ = from;
+        if end > self.get_size()? {
+            self.set_size(end)?;
+        }
+        Ok(())
+    }
 
     /// Returns once everything that was written survives a loss of power.
     ///
@@ -58,7 +71,8 @@ pub trait RafIo {
     }
 
     /// Returns [`Error::Moved`] if a later opening would not find the journal at [`journal_path`](RafIo::journal_path). A journal
-    /// returns an error if it cannot be written. It is called in each commit, before any bytes are written.
+    /// returns an error if it cannot be written. It is called in each commit, before any bytes are written, and at the end of a
+    /// creation. Then the name of a storage survives a loss of power, if it has one.
     ///
     /// The default does nothing.
     fn check_path(&mut self) -> Result<()> {
@@ -69,15 +83,19 @@ pub trait RafIo {
 /// A file of the system. It is locked with `flock` while a [`Raf`](super::Raf) uses it. Its journal is beside it: [`JournalFile`].
 ///
 /// A file that was opened through a path and has several names (hard links) is rejected, since each name would have a journal.
-/// Any user who may read the file can lock it, and so keep all others out.
+/// Any user who may read the file can lock it, and so keep all others out. It belongs to the process that opened it: after a fork
+/// no other process can lock it. The first commit syncs the folder, which the user must be able to read.
 #[derive(Debug)]
 pub struct FileIo {
     file: File,
     /// With no links in it.
     path: Option<PathBuf>,
     is_name_synced: bool,
-    /// The process that has locked it by this one: a copy of the descriptor shares the lock of another.
-    locked_by: Option<u32>,
+    /// The process that opened it: a copy of the descriptor in another shares its lock.
+    owner: Option<Process>,
+    is_locked: bool,
+    /// Whether the file was made for this one, and has no header yet. Dropping then removes it.
+    is_unfinished: bool,
 }
 
 impl FileIo {
@@ -88,37 +106,62 @@ impl FileIo {
     /// commit that was interrupted is not completed. The name of a new file is not synced. A copy of the descriptor, such as
     /// from [`File::try_clone`], shares the lock: do not open a second [`Raf`](super::Raf) on it.
     pub fn new(file: File) -> Self {
+        Self::of(file, None)
+    }
+
+    fn of(file: File, path: Option<PathBuf>) -> Self {
         FileIo {
             file,
-            path: None,
-            is_name_synced: true,
-            locked_by: None,
+            is_name_synced: path.is_none(),
+            path,
+            owner: Process::this().ok(),
+            is_locked: false,
+            is_unfinished: false,
         }
     }
 
     /// Opens the file at a path, and creates it if there is none. Its contents are kept.
     pub fn create(path: impl AsRef<Path>) -> Result<Self> {
-        Self::with(File::options().create(true), path.as_ref(), false)
+        Self::with(File::options().create(true), path.as_ref())
     }
 
-    /// Opens the file at a path. Its name must have been synced when it was created.
+    /// Opens the file at a path.
     pub fn open(path: impl AsRef<Path>) -> Result<Self> {
-        Self::with(&mut File::options(), path.as_ref(), true)
+        Self::with(&mut File::options(), path.as_ref())
     }
 
-    /// Makes a file at a path where there is none.
+    /// Makes a file at a path where there is none, and removes it again unless it becomes one of this format.
     pub(super) fn create_new(path: &Path) -> Result<Self> {
-        Self::with(File::options().create_new(true), path, false)
+        let mut made = Self::with(File::options().create_new(true), path)?;
+        made.is_unfinished = true;
+        Ok(made)
     }
 
-    fn with(options: &mut OpenOptions, path: &Path, is_name_synced: bool) -> Result<Self> {
-        Ok(FileIo {
-            file: options.read(true).write(true).open(path)?,
-            path: Some(resolved(path)?),
-            is_name_synced,
-            locked_by: None,
-        })
+    fn with(options: &mut OpenOptions, path: &Path) -> Result<Self> {
+        check_memory()?;
+        let file = options.read(true).write(true).open(path)?;
+        Ok(Self::of(file, Some(resolved(path)?)))
     }
+
+    /// Returns whether this process has opened it.
+    fn is_here(&self) -> bool {
+        self.owner.is_some_and(Process::is_this)
+    }
+
+    /// Returns [`Error::Moved`] unless the file is the one at its path, and has no other name.
+    fn check_name(&self) -> Result<()> {
+        match &self.path {
+            Some(path) if !is_only_at(&self.file, path)? => Err(Error::Moved),
+            _ => Ok(()),
+        }
+    }
+}
+
+/// Returns whether a file is at a path, and has no other name.
+fn is_only_at(file: &File, path: &Path) -> io::Result<bool> {
+    let own = file.metadata()?;
+    let found = found_at(path)?;
+    Ok(own.nlink() == 1 && found.is_some_and(|found| is_same(&found, &own)))
 }
 
 impl RafIo for FileIo {
@@ -138,20 +181,35 @@ impl RafIo for FileIo {
         self.file.set_len(size)
     }
 
-    /// Syncs the file, and the name of one that may be new.
-    fn sync(&mut self) -> io::Result<()> {
-        self.file.sync_all()?;
-        if let (Some(path), false) = (&self.path, self.is_name_synced) {
-            sync_folder(path)?;
-            self.is_name_synced = true;
+    /// If the file system cannot make room without writing, zeros are written and synced. After an error the file has its old
+    /// size.
+    fn reserve(&mut self, from: u64, end: u64) -> io::Result<()> {
+        let size = self.get_size()?;
+        let reserved = match take_room(&self.file, from, end) {
+            Ok(false) => write_zeros(&self.file, from, end),
+            other => other.map(|_| ()),
+        };
+        if reserved.is_err() {
+            let _ = self.file.set_len(size);
         }
-        Ok(())
+        reserved
+    }
+
+    fn sync(&mut self) -> io::Result<()> {
+        self.file.sync_all()
     }
 
     fn lock(&mut self) -> Result<()> {
-        lock(&self.file)?;
-        self.locked_by = Some(process::id());
-        self.check_path()
+        if !self.is_here() {
+            return Err(Error::Locked);
+        }
+        if let Err(error) = lock(&self.file) {
+            // Another program has the file, which is then no new one.
+            self.is_unfinished &= !matches!(error, Error::Locked);
+            return Err(error);
+        }
+        self.is_locked = true;
+        self.check_name()
     }
 
     fn journal_path(&self) -> Option<PathBuf> {
@@ -159,25 +217,44 @@ impl RafIo for FileIo {
     }
 
     fn check_path(&mut self) -> Result<()> {
-        let Some(path) = &self.path else {
-            return Ok(());
-        };
-        let own = self.file.metadata()?;
-        match found_at(path)? {
-            Some(found) if is_same(&found, &own) && own.nlink() == 1 => Ok(()),
-            _ => Err(Error::Moved),
+        self.check_name()?;
+        if let (Some(path), false) = (&self.path, self.is_name_synced) {
+            sync_folder(path)?;
+            self.is_name_synced = true;
+        }
+        self.is_unfinished = false;
+        Ok(())
+    }
+}
+
+/// Removes a file that was not finished. Unlocks the file in the process that has locked it, also if another descriptor of it is
+/// open, such as in a process that is being started.
+impl Drop for FileIo {
+    fn drop(&mut self) {
+        if !self.is_here() {
+            return;
+        }
+        if let (Some(path), true) = (&self.path, self.is_unfinished) {
+            if matches!(is_only_at(&self.file, path), Ok(true)) {
+                let _ = fs::remove_file(path);
+            }
+        }
+        if self.is_locked {
+            let _ = unlock(&self.file);
         }
     }
 }
 
-/// Unlocks the file in the process that has locked it, also if another descriptor of it is open, such as in a process that is
-/// being started.
-impl Drop for FileIo {
-    fn drop(&mut self) {
-        if self.locked_by == Some(process::id()) {
-            let _ = unlock(&self.file);
-        }
+/// Writes zeros, and syncs them: until then a file system may put off finding room.
+fn write_zeros(file: &File, from: u64, end: u64) -> io::Result<()> {
+    const ZEROS: &[u8] = &[0; 65_536];
+    let mut place = from;
+    while place < end {
+        let count = ZEROS.len().min((end - place) as usize);
+        file.write_all_at(&ZEROS[..count], place)?;
+        place += count as u64;
     }
+    file.sync_data()
 }
 
 /// No journal: a crash or an error in a commit may leave some of its changes, or damage the file.
@@ -228,7 +305,7 @@ impl RafIo for NoJournal {
 /// [`io::ErrorKind::InvalidData`], and nothing is changed. So is one that a user may write who may not write the file, by
 /// owner, group and mode. The owner of a file counts as a member of its group.
 ///
-/// A file of this name with up to 33 bytes may be the rest of a journal after a crash. Opening removes it, and a commit removes an
+/// A file of this name with up to 512 bytes may be the rest of a journal after a crash. Opening removes it, and a commit removes an
 /// empty one. If an empty one cannot be removed, opening ignores it, and a commit fails with the changes still in memory.
 ///
 /// Without a path, such as for a storage in memory, it is the same as [`NoJournal`].
@@ -306,7 +383,7 @@ fn left_at(path: &Path, create: bool) -> io::Result<Option<Metadata>> {
 
 /// Returns what was found at the path of a journal if it is one that is safe to use.
 fn checked(path: &Path, found: Metadata) -> io::Result<Metadata> {
-    let of = found_at(&file_of(path))?;
+    let of = found_at(file_of(path))?;
     if found.is_file() && found.nlink() == 1 && of.is_none_or(|of| is_as_safe(&found, &of)) {
         Ok(found)
     } else {
@@ -318,9 +395,13 @@ fn is_empty(found: &Metadata) -> bool {
     found.is_file() && found.nlink() == 1 && found.len() == 0
 }
 
-/// The path of the file that a journal is of.
-fn file_of(journal: &Path) -> PathBuf {
-    journal.with_extension("")
+/// The path of the file that a journal is of: without its last extension. No memory is taken.
+fn file_of(journal: &Path) -> &Path {
+    let extension = journal
+        .extension()
+        .map_or(0, |extension| 1 + extension.len());
+    let bytes = journal.as_os_str().as_bytes();
+    Path::new(OsStr::from_bytes(&bytes[..bytes.len() - extension]))
 }
 
 const OWNER: u32 = 0o600;
@@ -350,7 +431,7 @@ fn is_as_safe(journal: &Metadata, of: &Metadata) -> bool {
 /// allows, so that each user who may write the file may complete its commit.
 fn new_journal(path: &Path) -> io::Result<File> {
     let file = options().create_new(true).mode(OWNER).open(path)?;
-    let Some(of) = found_at(&file_of(path))? else {
+    let Some(of) = found_at(file_of(path))? else {
         return Ok(file);
     };
     if fchown(&file, Some(of.uid()), Some(of.gid())).is_err() {
@@ -399,6 +480,7 @@ fn is_same(one: &Metadata, other: &Metadata) -> bool {
 
 /// Returns the path of the journal of a file, of which there need not be one yet.
 pub(super) fn journal_path(path: &Path) -> io::Result<PathBuf> {
+    check_memory()?;
     Ok(with_journal(&resolved(path)?))
 }
 
@@ -460,8 +542,12 @@ impl RafIo for JournalFile {
         }
     }
 
+    /// Truncates no file that was not opened before.
     fn set_size(&mut self, size: u64) -> io::Result<()> {
-        match self.open(size > 0)? {
+        if let (Some(path), None, 0) = (&self.path, &self.file, size) {
+            return left_at(path, false).map(|_| ());
+        }
+        match self.open(true)? {
             Some(file) => file.set_len(size),
             None => Ok(()),
         }
@@ -535,21 +621,19 @@ impl<J: RafIo> JournalChoice for J {
 
 /// Returns all the bytes.
 pub(super) fn read_all(io: &mut impl RafIo) -> io::Result<Vec<u8>> {
-    let out_of_memory = || io::Error::from(io::ErrorKind::OutOfMemory);
-    let size = usize::try_from(io.get_size()?).map_err(|_| out_of_memory())?;
-    let mut bytes = Vec::new();
-    bytes.try_reserve_exact(size).map_err(|_| out_of_memory())?;
-    bytes.resize(size, 0);
+    let size = usize::try_from(io.get_size()?).map_err(|_| io::ErrorKind::OutOfMemory)?;
+    let mut bytes = zeros(size)?;
     io.read_at(&mut bytes, 0)?;
     Ok(bytes)
 }
 
 #[cfg(test)]
 mod tests {
-    use super::{FileIo, JournalFile, RafIo, mode_beside, sync_folder, with_journal};
-    use alloc::format;
+    use super::{FileIo, JournalFile, RafIo, mode_beside, new_journal, open_same};
+    use super::{sync_folder, with_journal, write_zeros};
+    use alloc::{format, vec};
     use std::fs::{self, File, Permissions};
-    use std::os::unix::fs::{MetadataExt, PermissionsExt, chown};
+    use std::os::unix::fs::{MetadataExt, PermissionsExt, chown, symlink};
     use std::path::Path;
 
     /// A device, which the system can neither sync nor cut: so each of these calls reaches the system.
@@ -581,7 +665,7 @@ mod tests {
         let mut io = FileIo::create(&path).unwrap();
         io.lock().unwrap();
         let in_this_one = io.file.try_clone().unwrap();
-        io.locked_by = Some(0);
+        io.owner = None;
         drop(io);
         let mut other = FileIo::open(&path).unwrap();
         assert!(other.lock().is_err());
@@ -630,6 +714,29 @@ mod tests {
         fs::remove_file(&path).unwrap();
     }
 
+    /// A new journal is for its owner alone until it has the mode of its file. It takes no other file and follows no link. Opening
+    /// rejects any other file than was found.
+    #[test]
+    fn new_journals() {
+        let path = std::env::temp_dir().join(format!("hunkravy-new-{}", std::process::id()));
+        let (at, other) = (with_journal(&path), path.with_extension("other"));
+        let made = new_journal(&at).unwrap().metadata().unwrap();
+        assert_eq!(
+            made.mode() & 0o777,
+            0o600,
+            "there is no file whose mode it gets"
+        );
+        assert!(new_journal(&at).is_err());
+        fs::write(&other, "another").unwrap();
+        let found = fs::symlink_metadata(&at).unwrap();
+        assert!(open_same(&at, &found).is_ok() && open_same(&other, &found).is_err());
+        fs::remove_file(&at).unwrap();
+        fs::remove_file(&other).unwrap();
+        symlink(&other, &at).unwrap();
+        assert!(new_journal(&at).is_err() && !other.exists());
+        fs::remove_file(&at).unwrap();
+    }
+
     /// The mode of a journal is that for the group that it gets.
     #[test]
     fn a_mode_in_the_group_of_the_file() {
@@ -664,6 +771,22 @@ mod tests {
         }
     }
 
+    /// Zeros are written in the place of room that a file system cannot take, and nowhere else.
+    #[test]
+    fn zeros_for_room() {
+        let path = std::env::temp_dir().join(format!("hunkravy-zeros-{}", std::process::id()));
+        for (from, end) in [(100, 200_000), (300, 301), (5, 5), (65_536, 131_072)] {
+            fs::write(&path, [7; 300]).unwrap();
+            let file = File::options().write(true).open(&path).unwrap();
+            write_zeros(&file, from, end).unwrap();
+            let mut expected = vec![7; 300];
+            expected.resize(300.max(if from < end { end as usize } else { 0 }), 0);
+            expected[300.min(from as usize)..].fill(if from < end { 0 } else { 7 });
+            assert!(fs::read(&path).unwrap() == expected, "{from} {end}");
+        }
+        fs::remove_file(&path).unwrap();
+    }
+
     /// An empty journal is removed when it is opened, whoever may open it, and another file of its name is not.
     #[test]
     fn empty_journals() {
@@ -693,7 +816,7 @@ mod tests {
         fs::remove_file(&at).unwrap();
     }
 
-    /// The name of a new file is synced with it, once.
+    /// The name of a file is synced before its first commit, once.
     #[test]
     fn the_name_of_a_new_file_is_synced_once() {
         let path = std::env::temp_dir().join(format!("hunkravy-names-{}", std::process::id()));
@@ -702,17 +825,26 @@ mod tests {
         let mut opened = FileIo::open(&path).unwrap();
         std::fs::remove_file(&path).unwrap();
         for io in [&mut made, &mut created, &mut opened] {
-            io.path = Some("/proc/file".into());
+            // It has a name, in a folder that cannot be synced.
+            io.path = Some("/proc/version".into());
+            io.file = File::open("/proc/version").unwrap();
+            assert!(io.check_name().is_ok(), "{:?}", io.check_name());
+            assert!(io.check_path().is_err() && !io.is_name_synced);
         }
-        assert!(made.sync().is_err() && created.sync().is_err() && opened.sync().is_ok());
         // So is that of a journal that is not empty.
         let mut journal = JournalFile::at(Some("/proc/file".into()));
-        opened.set_size(1).unwrap();
-        journal.file = Some(opened.file.try_clone().unwrap());
+        let file = File::options()
+            .create(true)
+            .write(true)
+            .truncate(true)
+            .open(&path);
+        journal.file = Some(file.unwrap());
+        journal.set_size(1).unwrap();
         assert!(journal.sync().is_err());
         journal.is_name_synced = true;
         assert!(journal.sync().is_ok());
-        created.path = Some(path);
-        assert!(created.sync().is_ok() && created.is_name_synced);
+        let mut opened = FileIo::open(&path).unwrap();
+        assert!(opened.check_path().is_ok() && opened.is_name_synced);
+        fs::remove_file(&path).unwrap();
     }
 }

@@ -5,8 +5,10 @@
 
 use super::io::RafIo;
 use crate::exports::{
-    JOURNAL_BEGINNING_BYTES, JOURNAL_HEAD_BYTES, JOURNAL_MAC_BYTES, JOURNAL_START_BYTES, Refusal, State, journal_next,
+    JOURNAL_BEGINNING_BYTES, JOURNAL_HEAD_BYTES, JOURNAL_MAC_BYTES, JOURNAL_START_BYTES, Refusal,
+    State, journal_next,
 };
+use crate::memory::with_room;
 use alloc::vec::Vec;
 use std::io;
 
@@ -44,12 +46,13 @@ pub fn commit(
     journal: &mut impl RafIo,
     seal: JournalSeal,
     writes: &[PendingWrite<'_>],
+    buffer: &mut Buffer,
 ) -> io::Result<()> {
     if !journal.keeps_bytes() {
-        return write_and_sync(io, writes.iter().copied());
+        return write_and_sync(io, writes.iter().copied(), buffer);
     }
-    write_journal(journal, seal, writes)?;
-    write_and_sync(io, writes.iter().copied())?;
+    write_journal(journal, seal, writes, buffer)?;
+    write_and_sync(io, writes.iter().copied(), buffer)?;
     empty(journal)
 }
 
@@ -59,10 +62,11 @@ fn write_journal(
     journal: &mut impl RafIo,
     seal: JournalSeal,
     writes: &[PendingWrite<'_>],
+    buffer: &mut Buffer,
 ) -> io::Result<()> {
     journal.write_at(&seal.start[..JOURNAL_BEGINNING_BYTES], 0)?;
     journal.sync()?;
-    let mut neighbours = Neighbours::new(journal);
+    let mut neighbours = Neighbours::new(journal, buffer);
     let mut place = JOURNAL_BEGINNING_BYTES as u64;
     pass_content(seal, writes, |bytes| {
         neighbours.write(bytes, place)?;
@@ -98,8 +102,9 @@ fn too_long(_refusal: Refusal) -> io::Error {
 pub fn write_and_sync<'b>(
     io: &mut impl RafIo,
     writes: impl IntoIterator<Item = PendingWrite<'b>>,
+    buffer: &mut Buffer,
 ) -> io::Result<()> {
-    let mut neighbours = Neighbours::new(io);
+    let mut neighbours = Neighbours::new(io, buffer);
     for write in writes {
         neighbours.write(write.bytes, write.place)?;
     }
@@ -109,19 +114,30 @@ pub fn write_and_sync<'b>(
 /// The most bytes that are written in one call. A longer write is a call of its own.
 const MOST_BYTES: usize = 256 * 1024;
 
+/// Memory in which neighbours are gathered. It is taken before anything is written.
+pub struct Buffer(Vec<u8>);
+
+impl Buffer {
+    /// Takes the memory, or returns an error if there is none.
+    pub fn new() -> io::Result<Self> {
+        Ok(Buffer(with_room(MOST_BYTES)?))
+    }
+}
+
 /// Writes in their order, neighbours in one call.
 struct Neighbours<'i, I> {
     io: &'i mut I,
     place: u64,
-    bytes: Vec<u8>,
+    bytes: &'i mut Vec<u8>,
 }
 
 impl<'i, I: RafIo> Neighbours<'i, I> {
-    fn new(io: &'i mut I) -> Self {
+    fn new(io: &'i mut I, buffer: &'i mut Buffer) -> Self {
+        buffer.0.clear();
         Neighbours {
             io,
             place: 0,
-            bytes: Vec::with_capacity(MOST_BYTES),
+            bytes: &mut buffer.0,
         }
     }
 
@@ -132,13 +148,17 @@ impl<'i, I: RafIo> Neighbours<'i, I> {
             self.flush()?;
             self.place = place;
         }
+        if bytes.len() > MOST_BYTES {
+            self.place += bytes.len() as u64;
+            return self.io.write_at(bytes, place);
+        }
         self.bytes.extend_from_slice(bytes);
         Ok(())
     }
 
     fn flush(&mut self) -> io::Result<()> {
         if !self.bytes.is_empty() {
-            self.io.write_at(&self.bytes, self.place)?;
+            self.io.write_at(self.bytes, self.place)?;
             self.bytes.clear();
         }
         Ok(())

@@ -18,7 +18,8 @@ pub const ID_BYTES: usize = 24;
 /// The length of the plaintext part of a header: the magic number, the algorithm, the chunk size and the id.
 pub const PLAINTEXT_HEADER_BYTES: usize = 33;
 
-const MAGIC: [u8; 4] = *b"AGP1";
+/// What a file begins with.
+pub const MAGIC: [u8; 4] = *b"AGP1";
 
 /// The key, the page size and the id of a file. The key is overwritten when it is dropped.
 pub struct Layout<A: Algorithm> {
@@ -50,6 +51,13 @@ impl<A: Algorithm> Layout<A> {
     /// Where a page begins.
     pub fn page_place(&self, number: u64) -> u64 {
         FIRST_PAGE + number * self.page_bytes() as u64
+    }
+
+    /// The number of the page that begins at a place, if one does.
+    pub fn page_at(&self, place: u64) -> Option<u64> {
+        let pages = place.checked_sub(FIRST_PAGE)?;
+        let page_bytes = self.page_bytes() as u64;
+        (pages % page_bytes == 0).then(|| pages / page_bytes)
     }
 
     /// How many pages contents of `size` bytes have.
@@ -104,7 +112,7 @@ impl<A: Algorithm> Layout<A> {
     pub fn plaintext_header(&self) -> [u8; PLAINTEXT_HEADER_BYTES] {
         let mut plaintext = [0; PLAINTEXT_HEADER_BYTES];
         plaintext[..4].copy_from_slice(&MAGIC);
-        plaintext[4] = A::EXPORTS.key_bytes as u8 + A::EXPORTS.lanes;
+        plaintext[4] = algorithm_byte::<A>();
         plaintext[5..9].copy_from_slice(&self.chunk_size.to_le_bytes());
         plaintext[9..].copy_from_slice(&self.id);
         plaintext
@@ -115,6 +123,11 @@ impl<A: Algorithm> Drop for Layout<A> {
     fn drop(&mut self) {
         wipe(self.key.as_mut());
     }
+}
+
+/// The byte that names an algorithm in a header: the length of its keys, and its number of lanes.
+pub fn algorithm_byte<A: Algorithm>() -> u8 {
+    A::EXPORTS.key_bytes as u8 + A::EXPORTS.lanes
 }
 
 /// Returns whether a page may have this number of bytes of contents.

@@ -1,12 +1,22 @@
 //! Sources of random bytes.
 
-use super::Result;
+use super::{Algorithm, Error, Result};
+use std::io::{self, ErrorKind};
 
 /// A source of random bytes, for nonces and ids.
 pub trait RafRng {
     /// Fills `buf` with random bytes. After an error the bytes of `buf` are not used. **Never return the same bytes twice**
-    /// under one key.
+    /// under one key. The reserved nonce, whose bytes are all 255, is rejected with an [`Error::Io`].
     fn fill(&mut self, buf: &mut [u8]) -> Result<()>;
+}
+
+/// Returns the nonce unless it is the reserved one. With that one the file's commitments and the keys of its journals are made.
+pub(super) fn checked_nonce<A: Algorithm>(nonce: A::Nonce) -> Result<A::Nonce> {
+    if nonce.as_ref().iter().all(|byte| *byte == 255) {
+        let text = "the source of random bytes returned the reserved nonce";
+        return Err(Error::Io(io::Error::new(ErrorKind::InvalidData, text)));
+    }
+    Ok(nonce)
 }
 
 /// The system's source of random bytes, `/dev/urandom`.

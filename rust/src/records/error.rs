@@ -29,6 +29,10 @@ pub enum Error {
     StreamTooLong,
     /// The context has more than [`MAX_CONTEXT_BYTES`](super::MAX_CONTEXT_BYTES).
     ContextTooLong,
+    /// The last message was sealed, and none may follow it.
+    Ended,
+    /// Memory ran out.
+    OutOfMemory,
 }
 
 impl fmt::Display for Error {
@@ -47,17 +51,23 @@ impl fmt::Display for Error {
             Error::Trailing => "bytes follow the last record",
             Error::StreamTooLong => "the stream is longer than 2^61 - 1 bytes",
             Error::ContextTooLong => "the context is longer than 65,535 bytes",
+            Error::Ended => "the last message of the record stream was sealed",
+            Error::OutOfMemory => "out of memory",
         })
     }
 }
 
 impl core::error::Error for Error {}
 
-/// An error of kind [`InvalidData`](std::io::ErrorKind::InvalidData), which holds this one.
+/// An error of kind [`InvalidData`](std::io::ErrorKind::InvalidData), which holds this one, or one of kind
+/// [`OutOfMemory`](std::io::ErrorKind::OutOfMemory).
 #[cfg(feature = "std")]
 impl From<Error> for std::io::Error {
     fn from(error: Error) -> Self {
-        std::io::Error::new(std::io::ErrorKind::InvalidData, error)
+        match error {
+            Error::OutOfMemory => std::io::ErrorKind::OutOfMemory.into(),
+            other => std::io::Error::new(std::io::ErrorKind::InvalidData, other),
+        }
     }
 }
 

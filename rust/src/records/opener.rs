@@ -34,8 +34,8 @@ pub struct OpenedInPlace<'b> {
 ///
 /// The stream is complete only if [`finish`](Self::finish) returns `Ok`. Until then it may be truncated.
 ///
-/// After an error every function returns the same error, so a record cannot be retried with other bytes. Exception: after the
-/// last record [`finish`](Self::finish) returns [`Error::Trailing`] only if its `rest` is not empty.
+/// After an error every function returns the same error, so a record cannot be retried with other bytes. Exceptions: after
+/// [`Error::OutOfMemory`] nothing has changed; and after the last record [`finish`](Self::finish) returns [`Error::Trailing`] only if its `rest` is not empty.
 #[must_use]
 pub struct Opener<'c> {
     records: Records<'c>,
@@ -146,14 +146,14 @@ impl<'c> Opener<'c> {
     /// # Errors
     ///
     /// The first fault of the stream, or [`Error::StreamTooLong`]. [`Error::Truncated`] if `bytes` ends before the record
-    /// does. [`Error::Trailing`] after the last record.
+    /// does. [`Error::Trailing`] after the last record. [`Error::OutOfMemory`].
     ///
     /// ```
     /// use hunkravy::records::{Error, Opener, Sealer};
     ///
     /// let (key, prefix) = ([1; 32], [2; 24]);
     /// let mut stream = Vec::new();
-    /// let sealer = Sealer::new(&key, &prefix, b"context")?;
+    /// let mut sealer = Sealer::new(&key, &prefix, b"context")?;
     /// let header = sealer.header();
     /// sealer.seal_last(b"a message", &mut stream)?;
     ///
@@ -167,7 +167,10 @@ impl<'c> Opener<'c> {
     pub fn open_next<'b>(&mut self, bytes: &'b [u8]) -> Result<Opened<'b>, Error> {
         let length = self.first_len(bytes)?;
         let (record, rest) = bytes.split_at(length);
-        let mut message = record.to_vec();
+        let mut message = Vec::new();
+        let reserved = message.try_reserve_exact(length);
+        reserved.map_err(|_| Error::OutOfMemory)?;
+        message.extend_from_slice(record);
         let is_last = self.open(&mut message)?;
         message.copy_within(RECORD_HEAD_BYTES.., 0);
         message.truncate(length - RECORD_BYTES);
@@ -187,7 +190,7 @@ impl<'c> Opener<'c> {
     /// use hunkravy::records::{Error, HEADER_BYTES, Opener, Sealer};
     ///
     /// let (key, prefix) = ([1; 32], [2; 24]);
-    /// let sealer = Sealer::new(&key, &prefix, b"context")?;
+    /// let mut sealer = Sealer::new(&key, &prefix, b"context")?;
     /// let mut stream = sealer.header().to_vec();
     /// sealer.seal_last(b"a message", &mut stream)?;
     ///

@@ -10,7 +10,7 @@ use core::fmt;
 /// Encrypts the messages of a stream. Its state is overwritten when it is dropped.
 ///
 /// End each stream with [`seal_last`](Self::seal_last) or [`seal_last_in_place`](Self::seal_last_in_place): without it the
-/// stream is truncated.
+/// stream is truncated. After it the other functions return [`Error::Ended`].
 ///
 /// **After a fork only one of the two processes may go on with a sealer**: both have its nonces.
 ///
@@ -59,7 +59,7 @@ impl<'c> Sealer<'c> {
     ///
     /// # Errors
     ///
-    /// [`Error::TooLong`] or [`Error::StreamTooLong`]. Nothing has changed then.
+    /// [`Error::TooLong`], [`Error::StreamTooLong`], [`Error::Ended`] or [`Error::OutOfMemory`]. Nothing has changed then.
     ///
     /// ```
     /// use hunkravy::records::{Error, MAX_MESSAGE_BYTES, Sealer};
@@ -75,8 +75,9 @@ impl<'c> Sealer<'c> {
         self.append(message, stream, false)
     }
 
-    /// Appends the record of the last message to `stream`. The errors are those of [`seal_next`](Self::seal_next).
-    pub fn seal_last(mut self, message: &[u8], stream: &mut Vec<u8>) -> Result<(), Error> {
+    /// Appends the record of the last message to `stream`. The errors are those of [`seal_next`](Self::seal_next). Nothing has
+    /// changed then, and another message may be the last one.
+    pub fn seal_last(&mut self, message: &[u8], stream: &mut Vec<u8>) -> Result<(), Error> {
         self.append(message, stream, true)
     }
 
@@ -85,7 +86,8 @@ impl<'c> Sealer<'c> {
     ///
     /// # Errors
     ///
-    /// [`Error::TooLong`] or [`Error::StreamTooLong`]. Nothing has changed then: `record` still has the message, unencrypted.
+    /// [`Error::TooLong`], [`Error::StreamTooLong`] or [`Error::Ended`]. Nothing has changed then: `record` still has the message,
+    /// unencrypted.
     ///
     /// # Panics
     ///
@@ -109,13 +111,14 @@ impl<'c> Sealer<'c> {
     ///
     /// # Errors
     ///
-    /// [`Error::TooLong`] or [`Error::StreamTooLong`]. `record` still has the message then, unencrypted.
+    /// Those of [`seal_next_in_place`](Self::seal_next_in_place). Nothing has changed then: `record` still has the message,
+    /// unencrypted, and another may be the last one.
     ///
     /// # Panics
     ///
-    /// If `record` has less than [`RECORD_BYTES`].
+    /// If `record` has less than [`RECORD_BYTES`]. Nothing has changed then.
     #[track_caller]
-    pub fn seal_last_in_place(mut self, record: &mut [u8]) -> Result<(), Error> {
+    pub fn seal_last_in_place(&mut self, record: &mut [u8]) -> Result<(), Error> {
         self.seal(record, true)
     }
 
@@ -125,7 +128,8 @@ impl<'c> Sealer<'c> {
         }
         let start = stream.len();
         let end = start + message.len() + RECORD_BYTES;
-        stream.reserve(end - start);
+        let reserved = stream.try_reserve(end - start);
+        reserved.map_err(|_| Error::OutOfMemory)?;
         stream.resize(start + RECORD_HEAD_BYTES, 0);
         stream.extend_from_slice(message);
         stream.resize(end, 0);
@@ -146,6 +150,7 @@ impl<'c> Sealer<'c> {
         match self.records.seal(record, is_last) {
             Ok(()) => Ok(()),
             Err(Refusal::MessageTooLong) => Err(Error::StreamTooLong),
+            Err(Refusal::WrongState) => Err(Error::Ended),
             Err(refusal) => unreachable!("the library refused to seal a record: {refusal:?}"),
         }
     }

@@ -6,7 +6,7 @@ use crate::support::{Bytes, Disk, KEY, Random, disks};
 use hunkravy::raf::*;
 use std::fs;
 use std::io;
-use std::os::unix::fs::{MetadataExt, PermissionsExt, symlink};
+use std::os::unix::fs::{FileExt, MetadataExt, PermissionsExt, symlink};
 use std::os::unix::process::CommandExt;
 use std::path::Path;
 use std::process::Command;
@@ -198,6 +198,24 @@ fn a_file_that_is_created_over_one_in_a_commit() {
     drop(file);
     let created = RafBuilder::<Aegis256>::new().create_file(&path, &KEY);
     assert!(matches!(created, Err(Error::Journal)), "{created:?}");
+}
+
+/// A large file of the journal's name that is none of the file's is not read: its bytes may be more than the memory.
+#[test]
+fn a_large_file_that_is_no_journal() {
+    let folder = Folder::new("large-no-journal");
+    let path = folder.path("file");
+    with_text(&path, b"before");
+    let journal = fs::File::create(folder.path("file.journal")).unwrap();
+    for front in [vec![0; 600], crate::support::front_of_another().to_vec()] {
+        journal.write_all_at(&front, 0).unwrap();
+        journal.set_len(1 << 40).unwrap();
+        assert!(matches!(open(&path), Err(Error::Journal)));
+    }
+    // Nor if the file has no header.
+    fs::write(&path, [0; 600]).unwrap();
+    journal.write_all_at(b"AGJ2", 0).unwrap();
+    assert!(matches!(open(&path), Err(Error::Header)));
 }
 
 /// Opening keeps a file of 513 bytes that is no journal, and removes one of 512.
@@ -446,6 +464,40 @@ fn each_read_that_fails() {
         }
     }
     assert!(failed > 6, "{failed}");
+}
+
+/// This test runs itself once more as another user, who cannot give a journal to the owner of the file beside it: that user could
+/// write it, and not the file. So it is removed. Only root can become another user.
+#[test]
+fn a_journal_that_is_not_safe() {
+    const NAME: &str = "attacks::a_journal_that_is_not_safe";
+    const VARIABLE: &str = "HUNKRAVY_UNSAFE";
+    if let Some(journal) = std::env::var_os(VARIABLE) {
+        let mut disk = disks(Bytes::default()).0;
+        disk.journal = Some(journal.into());
+        let mut file = RafBuilder::<Aegis256>::new().create(disk, &KEY).unwrap();
+        file.write(b"text", 0).unwrap();
+        assert!(matches!(file.commit(), Err(Error::Io(error))
+            if error.kind() == io::ErrorKind::InvalidData));
+        return;
+    }
+    if fs::metadata("/proc/self").unwrap().uid() != 0 {
+        return;
+    }
+    let folder = Folder::new("not-safe");
+    let (path, program) = (folder.path("file"), folder.path("program"));
+    fs::copy(std::env::current_exe().unwrap(), &program).unwrap();
+    fs::write(&path, "of root").unwrap();
+    let allow = |path: &Path, mode| fs::set_permissions(path, fs::Permissions::from_mode(mode));
+    allow(path.parent().unwrap(), 0o777).unwrap();
+    allow(&program, 0o755).unwrap();
+    allow(&path, 0o600).unwrap();
+    let mut command = Command::new(&program);
+    command.args([NAME, "--exact"]);
+    command.env(VARIABLE, folder.path("file.journal"));
+    let output = command.uid(65_534).gid(65_534).output().unwrap();
+    assert!(output.status.success(), "{output:?}");
+    assert_eq!(folder.names(), ["file", "program"]);
 }
 
 /// This test runs itself once more as another user, who may not write to the folder, or not read it: the file is read, and a

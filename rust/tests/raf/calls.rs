@@ -5,6 +5,7 @@ use crate::support::{
 };
 use hunkravy::raf::*;
 use std::cell::Cell;
+use std::error::Error as _;
 use std::io;
 use std::time::Instant;
 
@@ -221,8 +222,13 @@ fn the_calls_of_an_opening() {
     drop(created(&disks, usize::MAX));
     disks.0.log.borrow_mut().calls.clear();
     drop(opened(&disks));
-    // A journal that is empty is not written.
-    assert_eq!(places(&disks), [(Part::File, None), (Part::Journal, None)]);
+    // So does an empty one: after a sync that failed its old bytes may be on the disk.
+    let expected = [
+        (Part::File, None),
+        (Part::Journal, Some(u64::MAX)),
+        (Part::Journal, None),
+    ];
+    assert_eq!(places(&disks), expected);
 }
 
 /// A creation locks the file and the journal, and writes the header once the journal is certain to be empty. An opening locks
@@ -232,6 +238,7 @@ fn the_calls_of_a_creation() {
     let disks = disks(Bytes::default());
     let mut file = created(&disks, usize::MAX);
     let expected = [
+        (Part::Journal, Some(u64::MAX)),
         (Part::Journal, None),
         (Part::File, Some(u64::MAX)),
         (Part::File, Some(0)),
@@ -440,6 +447,123 @@ fn a_source_of_random_bytes_that_fails() {
         .unwrap();
     file.write(&[1; 300], 0).unwrap();
     file.commit().unwrap();
+}
+
+/// A source whose next bytes are all 255, after this number of calls.
+struct Reserved(Random, usize);
+
+impl RafRng for Reserved {
+    fn fill(&mut self, buf: &mut [u8]) -> Result<()> {
+        self.0.fill(buf)?;
+        match self.1.checked_sub(1) {
+            Some(left) => self.1 = left,
+            // The nonce of a header, or that of the last page and the header.
+            None => buf.iter_mut().rev().take(64).for_each(|byte| *byte = 255),
+        }
+        Ok(())
+    }
+}
+
+/// Each error has its text, and the kind and the cause of the `io::Error` that is made of it.
+#[test]
+fn errors() {
+    let missing = || io::Error::from_raw_os_error(2);
+    let texts = [
+        (
+            Error::Io(missing()),
+            "No such file or directory (os error 2)",
+        ),
+        (
+            Error::Header,
+            "cannot open the header: wrong key or algorithm, damaged file, or not a raf file",
+        ),
+        (Error::Journal, "the journal does not belong to this file"),
+        (Error::Damaged(70), "page 70 is damaged"),
+        (
+            Error::TooLong,
+            "the contents are too long, or no more commits are possible",
+        ),
+        (
+            Error::ChunkSize,
+            "the chunk size must be 256 to 65,536 bytes",
+        ),
+        (
+            Error::ContextTooLong,
+            "the context is longer than 120 bytes (16-byte key) or 72 (32-byte key)",
+        ),
+        (Error::Commitment, "the commitment is not the expected one"),
+        (
+            Error::Locked,
+            "the file is already open, here or in another process",
+        ),
+        (
+            Error::Moved,
+            "the file was renamed, removed or replaced, or has several hard links",
+        ),
+        (Error::Broken, "a commit failed: open the file again"),
+    ];
+    for (error, text) in texts {
+        assert_eq!(error.to_string(), text);
+        let (is_io, has_source) = (matches!(error, Error::Io(_)), error.source().is_some());
+        assert_eq!(has_source, is_io);
+        let error = io::Error::from(error);
+        let kind = if is_io {
+            io::ErrorKind::NotFound
+        } else {
+            io::ErrorKind::InvalidData
+        };
+        assert_eq!((error.kind(), error.to_string()), (kind, text.to_owned()));
+        assert_eq!(error.raw_os_error(), is_io.then_some(2));
+    }
+}
+
+/// What is set before a source or a journal is set is kept.
+#[test]
+fn builders_keep_what_was_set() {
+    let disks = disks(Bytes::default());
+    let builder = RafBuilder::<Aegis256>::new().buffer_limit(0).truncate(true);
+    let builder = builder.chunk_size(300).rng(Random(5));
+    let builder = builder.journal(disks.1.clone());
+    disks.0.bytes.borrow_mut().push(1);
+    let mut file = builder.create(disks.0.clone(), &KEY).unwrap();
+    file.write(b"text", 0).unwrap();
+    assert_eq!(opened(&disks).size(), 4);
+    assert_eq!(probe(&mut disks.0.clone()).unwrap().chunk_size, 300);
+    assert_eq!(format!("{file:?}"), "Raf { size: 4, .. }");
+}
+
+/// A file that has lost its header while it was open is not committed to.
+#[test]
+fn a_file_that_was_truncated_while_open() {
+    let disks = disks(Bytes::default());
+    let mut file = created(&disks, usize::MAX);
+    file.write(b"text", 0).unwrap();
+    disks.0.bytes.borrow_mut().truncate(511);
+    let count = calls(&disks);
+    let error = file.commit().unwrap_err();
+    assert!(matches!(error, Error::Io(error) if error.kind() == io::ErrorKind::UnexpectedEof));
+    assert_eq!((calls(&disks), file.size()), (count, 4));
+    file.discard();
+}
+
+/// The nonce that commitments have is used for no header and no page.
+#[test]
+fn the_reserved_nonce() {
+    let disks = disks(Bytes::default());
+    let builder = |left| RafBuilder::<Aegis256>::with_rng(Reserved(Random(5), left));
+    let builder = |left| builder(left).journal(disks.1.clone());
+    let created = builder(1).create(disks.0.clone(), &KEY);
+    assert!(matches!(created, Err(Error::Io(_))));
+    assert_eq!(calls(&disks), 0);
+    drop(builder(2).create(disks.0.clone(), &KEY).unwrap());
+    let count = calls(&disks);
+    let mut file = builder(0).open(disks.0.clone(), &KEY).unwrap();
+    file.write(b"kept", 0).unwrap();
+    assert!(matches!(file.commit(), Err(Error::Io(_))));
+    // They are those of the opening.
+    assert_eq!(calls(&disks), count + 3);
+    assert_eq!(file.size(), 4);
+    file.discard();
 }
 
 #[test]

@@ -144,6 +144,7 @@ fn torn_fronts(journal: &[u8], front: &[u8], cut: usize) -> Vec<Vec<u8>> {
 fn each_torn_front_of_a_journal() {
     let (bytes, before) = begun();
     let (calls, after) = committed(&bytes, 0);
+    let cuts = (0..=40).chain((48..=512).step_by(16));
     let mut tries = 0;
     for count in 0..=JOURNAL_CALLS {
         let synced = calls[..count].iter().rposition(|call| call.1 == Call::Sync);
@@ -156,7 +157,10 @@ fn each_torn_front_of_a_journal() {
         }
         let (file, journal) = changed(&bytes, &calls[..count]);
         for front in [front_of_another(), [0; 512], [0xff; 512]] {
-            for journal in (0..=512).flat_map(|cut| torn_fronts(&journal, &front, cut)) {
+            for journal in cuts
+                .clone()
+                .flat_map(|cut| torn_fronts(&journal, &front, cut))
+            {
                 check_opens(&(file.clone(), journal), &before, &after);
                 tries += 1;
             }

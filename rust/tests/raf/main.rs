@@ -6,8 +6,11 @@ mod batches;
 mod calls;
 mod crashes;
 mod damage;
+mod failed_syncs;
 mod formats;
+mod full_disk;
 mod model;
+mod nested;
 mod paths;
 #[path = "../sealed/random.rs"]
 mod random;

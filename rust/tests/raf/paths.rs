@@ -6,6 +6,7 @@ use std::collections::HashSet;
 use std::fs;
 use std::io::{self, Read, Seek, SeekFrom, Write};
 use std::path::{Path, PathBuf};
+use std::process::Command;
 
 /// A folder that is removed when it is dropped.
 pub struct Folder(PathBuf);
@@ -252,6 +253,30 @@ fn the_bytes_of_the_system() {
     }
 }
 
+/// Another process gets other bytes from the system, and so does the next one.
+#[test]
+fn the_bytes_of_another_process() {
+    let mut drawn = [0; 16];
+    OsRng::default().fill(&mut drawn).unwrap();
+    if std::env::var_os("HUNKRAVY_SHOWS_RANDOM").is_some() {
+        println!("random {drawn:?}");
+        return;
+    }
+    let shown = || {
+        let mut test = Command::new(std::env::current_exe().unwrap());
+        test.args([
+            "--exact",
+            "paths::the_bytes_of_another_process",
+            "--nocapture",
+        ]);
+        let output = test.env("HUNKRAVY_SHOWS_RANDOM", "1").output().unwrap();
+        let text = String::from_utf8(output.stdout).unwrap();
+        let (_, bytes) = text.split_once("random ").unwrap();
+        bytes.split_once(']').unwrap().0.to_owned()
+    };
+    assert_ne!(shown(), shown());
+}
+
 /// The id of a file, and the nonce of each header and page, are drawn.
 #[test]
 fn files_differ() {
@@ -294,6 +319,52 @@ fn refused_before_anything_is_changed() {
     assert_eq!(builder().create_file(&path, &KEY).unwrap().size(), 0);
     assert!(open(&folder.path("none")).is_err());
     assert!(create(&folder.path("no/folder")).is_err());
+}
+
+/// What fails after a file was made removes it again, unless another program has it or gave it another name.
+#[test]
+fn refused_after_a_file_was_made() {
+    let folder = Folder::new("unmade");
+    let path = folder.path("file");
+    for truncate in [false, true] {
+        let builder = || RafBuilder::<Aegis256>::new().truncate(truncate);
+        // The journal that was set is not empty, or cannot be read, or syncing it fails.
+        let journals = disks((Vec::new(), vec![1]));
+        let refused = builder()
+            .journal(journals.1.clone())
+            .create_file(&path, &KEY);
+        assert!(matches!(refused, Err(Error::Journal)));
+        assert!(folder.names().is_empty());
+        let journals = disks(Default::default());
+        journals.1.log.borrow_mut().left = 0;
+        let refused = builder()
+            .journal(journals.1.clone())
+            .create_file(&path, &KEY);
+        assert!(matches!(refused, Err(Error::Io(_))));
+        assert!(folder.names().is_empty());
+    }
+    // One that is there already is kept, and so is one that another program opens meanwhile.
+    fs::write(&path, b"").unwrap();
+    let journals = disks((Vec::new(), vec![1]));
+    let builder = || RafBuilder::<Aegis256>::new().truncate(true);
+    assert!(
+        builder()
+            .journal(journals.1)
+            .create_file(&path, &KEY)
+            .is_err()
+    );
+    assert_eq!(folder.names(), ["file"]);
+    let at_sync = |call| {
+        if call == At::Sync {
+            fs::hard_link(folder.path("new"), folder.path("other")).unwrap();
+        }
+    };
+    let journal = Before(disks((Vec::new(), Vec::new())).1, at_sync);
+    let refused = builder()
+        .journal(journal)
+        .create_file(folder.path("new"), &KEY);
+    assert!(matches!(refused, Err(Error::Moved)));
+    assert_eq!(folder.names(), ["file", "new", "other"]);
 }
 
 /// A copy of a descriptor shares the lock of the other, and what has not locked it does not unlock it.
@@ -424,7 +495,8 @@ fn cursors() {
     let mut file = create(&path).unwrap();
     let mut cursor = file.cursor();
     cursor.write_all(b"one two ").unwrap();
-    cursor.write_all(b"three").unwrap();
+    cursor.write_all(b"thr").unwrap();
+    cursor.write_all(b"ee").unwrap();
     cursor.seek(SeekFrom::End(-5)).unwrap();
     let mut word = String::new();
     cursor.read_to_string(&mut word).unwrap();

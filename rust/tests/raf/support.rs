@@ -200,7 +200,7 @@ fn apply(bytes: &mut Vec<u8>, change: &Call) {
 
 /// Leaves any bytes where a write was to be: those of before, those of after, garbage, or what another file's journal
 /// begins with, in pieces of some length.
-fn tear(bytes: &mut Vec<u8>, offset: u64, data: &[u8], random: &mut Random) {
+pub fn tear(bytes: &mut Vec<u8>, offset: u64, data: &[u8], random: &mut Random) {
     let piece = [1, 16, 100, 512, 4096, usize::MAX][random.below(6) as usize];
     let kinds = 1 + random.below(4);
     let first = random.below(4);

@@ -148,7 +148,7 @@ fn a_record_without_room() {
 fn contexts() {
     let contexts = [&[][..], &[0], &[0; 2], &[1; MAX_CONTEXT_BYTES]];
     for sealing in contexts {
-        let sealer = Sealer::new(&key(), &PREFIX, sealing).unwrap();
+        let mut sealer = Sealer::new(&key(), &PREFIX, sealing).unwrap();
         let mut stream = sealer.header().to_vec();
         sealer.seal_last(b"message", &mut stream).unwrap();
         for opening in contexts {
@@ -208,28 +208,61 @@ fn moved_stream_keeps_its_context() {
     );
 }
 
-/// Each error has a text of its own.
+/// Each error has its text, and is what an `io::Error` of it holds.
 #[test]
 fn errors() {
-    let errors = [
-        Error::Header,
-        Error::Truncated,
-        Error::Flag,
-        Error::TooLong,
-        Error::Damaged(7),
-        Error::Damaged(70),
-        Error::Trailing,
-        Error::StreamTooLong,
-        Error::ContextTooLong,
+    let texts = [
+        (Error::Header, "not a record stream: the header is wrong"),
+        (Error::Truncated, "the record stream is truncated"),
+        (Error::Flag, "the first byte of a record is neither 0 nor 1"),
+        (Error::TooLong, "a message is longer than 16 MiB"),
+        (
+            Error::Damaged(70),
+            "record 70 is damaged, or the key, prefix or context is wrong",
+        ),
+        (Error::Trailing, "bytes follow the last record"),
+        (
+            Error::StreamTooLong,
+            "the stream is longer than 2^61 - 1 bytes",
+        ),
+        (
+            Error::ContextTooLong,
+            "the context is longer than 65,535 bytes",
+        ),
+        (
+            Error::Ended,
+            "the last message of the record stream was sealed",
+        ),
     ];
-    let mut texts: Vec<String> = errors.iter().map(Error::to_string).collect();
-    assert!(texts[4].contains('7') && texts.iter().all(|text| text.len() > 5));
-    texts.sort();
-    texts.dedup();
-    assert_eq!(texts.len(), errors.len());
-    for error in errors {
+    for (error, text) in texts {
+        assert_eq!(error.to_string(), text);
         assert_eq!(fault_of(&error.into()), error);
     }
+    assert_eq!(Error::OutOfMemory.to_string(), "out of memory");
     let source: Box<dyn std::error::Error + Send + Sync> = Error::Flag.into();
     assert!(source.source().is_none());
+}
+
+/// A last message that is rejected changes nothing: another can be the last one. After it there is none.
+#[test]
+fn a_last_message_that_is_too_long() {
+    let mut sealer = Sealer::new(&key(), &PREFIX, b"").unwrap();
+    let mut stream = sealer.header().to_vec();
+    let mut record = vec![7; RECORD_BYTES + MAX_MESSAGE_BYTES + 1];
+    assert_eq!(
+        sealer.seal_last(&record[RECORD_BYTES..], &mut stream),
+        Err(Error::TooLong)
+    );
+    assert_eq!(sealer.seal_last_in_place(&mut record), Err(Error::TooLong));
+    assert!(stream == sealer.header() && record.iter().all(|byte| *byte == 7));
+    sealer.seal_last(b"last", &mut stream).unwrap();
+    let mut opener = Opener::new(&key(), &PREFIX, b"", &stream[..4]).unwrap();
+    let opened = opener.open_next(&stream[4..]).unwrap();
+    assert!(opened.message == b"last" && opened.is_last && opened.rest.is_empty());
+    let length = stream.len();
+    assert_eq!(sealer.seal_next(b"more", &mut stream), Err(Error::Ended));
+    assert_eq!(sealer.seal_last(b"more", &mut stream), Err(Error::Ended));
+    let mut record = [7; RECORD_BYTES];
+    assert_eq!(sealer.seal_next_in_place(&mut record), Err(Error::Ended));
+    assert_eq!((stream.len(), record), (length, [7; RECORD_BYTES]));
 }

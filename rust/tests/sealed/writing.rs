@@ -8,6 +8,7 @@ use hunkravy::files::{SealedReader, SealedWriter};
 use hunkravy::records::{Error, MAX_MESSAGE_BYTES};
 use std::io::{self, BufRead, ErrorKind, Read, Write};
 use std::panic::{AssertUnwindSafe, catch_unwind};
+use std::process::Command;
 
 const LENGTHS: [usize; 8] = [
     0,
@@ -50,6 +51,45 @@ fn written_in_any_lengths() {
         4 * LENGTHS.len() - 2,
         "no prefix is used twice"
     );
+}
+
+/// This test runs itself again: the prefixes of other processes differ from each other.
+#[test]
+fn prefixes_of_other_processes() {
+    const VARIABLE: &str = "HUNKRAVY_SHOWS_PREFIX";
+    let writer = SealedWriter::new(Vec::new(), &key()).unwrap();
+    if std::env::var_os(VARIABLE).is_some() {
+        println!("prefix {:?}", &writer.get_ref()[..24]);
+        return;
+    }
+    let shown = || {
+        let mut test = Command::new(std::env::current_exe().unwrap());
+        test.args([
+            "--exact",
+            "writing::prefixes_of_other_processes",
+            "--nocapture",
+        ]);
+        let output = test.env(VARIABLE, "1").output().unwrap();
+        let text = String::from_utf8(output.stdout).unwrap();
+        let (_, prefix) = text.split_once("prefix ").unwrap();
+        prefix.split_once(']').unwrap().0.to_owned()
+    };
+    assert_ne!(shown(), shown());
+}
+
+/// A reader that returns too large a count.
+struct TooLarge;
+
+impl Read for TooLarge {
+    fn read(&mut self, buf: &mut [u8]) -> io::Result<usize> {
+        Ok(buf.len() + 1)
+    }
+}
+
+#[test]
+#[should_panic = "the inner reader returned too large a count"]
+fn a_reader_that_returns_too_large_a_count() {
+    let _ = SealedReader::new(TooLarge, &key()).read(&mut [0; 10]);
 }
 
 fn read(file: &[u8]) -> io::Result<Vec<u8>> {
