@@ -167,7 +167,7 @@ check-musl: $(addprefix check-musl-,both $(RUNNABLE))
 
 check-musl-%: $(OUT)/%/libhunkravy.a
 	for program in $(C_TESTS); do \
-		musl-gcc -static -std=c99 $(C_FLAGS) -O2 c/tests/$$program.c $< -o $(OUT)/$*/$$program-musl && \
+		musl-gcc -static -std=c99 -D_DEFAULT_SOURCE $(C_FLAGS) -O2 c/tests/$$program.c $< -o $(OUT)/$*/$$program-musl && \
 		LEVEL=$(patsubst x86-64-v%,%,$(filter x86%,$*)) $(OUT)/$*/$$program-musl $(STORED_LINES) || exit 1; \
 	done
 
@@ -191,9 +191,9 @@ abi: $(DESCRIBED)
 check-level: $(OUT)/both/libhunkravy.a $(OUT)/both/$(SONAME)
 	tools/check_level.sh $^ $(STORED_LINES)
 
-# The tests as C++, which call what the headers have.
+# The tests as C++, which call what the headers have. That of an example is C, as the example is.
 check-c++: $(OUT)/both/libhunkravy.a
-	for program in $(C_TESTS); do \
+	for program in $(filter-out check_file,$(C_TESTS)); do \
 		$(CC) -std=c++11 $(C_FLAGS) -O2 -x c++ c/tests/$$program.c -x none $< -o $(OUT)/both/$$program++ && \
 		$(OUT)/both/$$program++ $(STORED_LINES) || exit 1; \
 	done

@@ -229,6 +229,42 @@ class Crashes(InPlace):
             self.assertEqual((length - 512, 512) in places, is_again, stops)
 
 
+class Others(InPlace):
+    """The example file.c opens what a commit has left that was stopped at each call, and this package what it has written."""
+
+    def setUp(self) -> None:
+        super().setUp()
+        root = pathlib.Path(__file__).parents[2]
+        library = pathlib.Path(os.environ.get("HUNKRAVY_LIB_DIR", root / "out" / "both")) / "libhunkravy.a"
+        if "HUNKRAVY_SANITIZED" in os.environ or not library.exists():
+            self.skipTest(f"the example file.c, without a compiler or {library}")
+        self.program, self.key = self.path.with_name("program"), self.path.with_name("key")
+        source: list[Any] = [f"-I{root}/c/include", root / "c" / "examples" / "file.c", library, "-o", self.program]
+        command = ["cc", "-std=c99", *source]
+        subprocess.run(command, check=True)
+        self.key.write_bytes(KEY)
+
+    def run_program(self, place: int, *words: str) -> bytes:
+        command: list[Any] = [self.program, self.key, self.path, str(place), *words]
+        return subprocess.run(command, check=True, capture_output=True).stdout
+
+    def test_each_state(self) -> None:
+        old, new = b"old" * 1000, b"new" * 1000
+        for calls in range(12):
+            self.path.unlink(missing_ok=True)
+            self.journal.unlink(missing_ok=True)
+            RandomAccessFile.create(self.path, KEY).close()
+            file = RandomAccessFile(self.path, KEY)
+            file.write_at(0, old)
+            with self.assertRaises(Stopped), Stops(calls), file:
+                file.write_at(0, new)
+            found = self.run_program(0)
+            self.assertIn(found, (old, new))
+            self.assertEqual(self.contents(), found)
+        self.run_program(2995, "written by the example")
+        self.assertEqual(self.contents(), new[:2995] + b"written by the example")
+
+
 class Faults(InPlace):
     def test_damage(self) -> None:
         self.create(bytes(1000))
