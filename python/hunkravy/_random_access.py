@@ -211,7 +211,9 @@ class RandomAccessFile(variants.Secret, turns.Turns):
         try:
             yield self
         except BaseException:
-            self._end_batch(is_kept=False)
+            # The file may be closed, or that of another process.
+            with contextlib.suppress(ValueError):
+                self._end_batch(is_kept=False)
             raise
         self._end_batch(is_kept=True)
 
@@ -326,6 +328,8 @@ class RandomAccessFile(variants.Secret, turns.Turns):
         self._committed = self._length = length
 
     def _header(self, counter: int, length: int) -> bytes:
+        if counter >> 64:
+            raise ValueError("no more commits are possible")
         nonce = os.urandom(self._nonce_bytes)
         return self._cipher.header_seal(self._page_size, self._id, counter, length, nonce)
 

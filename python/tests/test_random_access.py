@@ -130,6 +130,11 @@ class Contents(InPlace):
             with file.batch(), file.batch():
                 file.write_at(6, b" and after")
             self.assertEqual(file.read_at(0, 99), b"before and after")
+            with self.assertRaises(KeyError), file.batch():
+                file.write_at(0, b"inside")
+                file.close()
+                raise KeyError
+        self.assertEqual(self.contents(), b"before and after")
 
     def test_with_the_standard_library(self) -> None:
         self.create()
