@@ -147,7 +147,7 @@ impl State {
 
     /// Absorbs the block that is not full, if there is one.
     fn absorb_block(&self, aegis: &mut Aegis) {
-        if !self.message_bytes.is_multiple_of(aegis.rate() as u64) {
+        if self.message_bytes % aegis.rate() as u64 != 0 {
             aegis.absorb(&self.block[..aegis.rate()]);
         }
     }
