@@ -1,9 +1,9 @@
 /*
- * Starts the build of the file tool for this processor: ../lib/hunkravy/LEVEL/hunkravy beside the folder of this program.
+ * Starts the build of the file tool for this processor: ../lib/hunkravy/LEVEL/hunkravy beside this program's folder.
  *
- * It needs nothing: no shell, no C library, no /proc. Where /proc is, the system names the program there, whatever links led
- * to it. Elsewhere its name is the one that it was started by, and its links are followed here. The status is 127 if the
- * build cannot be started.
+ * It needs nothing: no shell, no C library, no /proc. Where /proc is, the system names the program there, whatever links
+ * led to it. Elsewhere the name is that which the program was started by, and its links are followed here. The status
+ * is 127 if the build cannot be started.
  */
 #include "../c/levels/level.h"
 
@@ -24,7 +24,10 @@ enum {
 static long call(long number, const void *first, const void *second, const void *third)
 {
     long result;
-    __asm__ volatile("syscall" : "=a"(result) : "a"(number), "D"(first), "S"(second), "d"(third) : "rcx", "r11", "memory");
+    __asm__ volatile("syscall"
+                     : "=a"(result)
+                     : "a"(number), "D"(first), "S"(second), "d"(third)
+                     : "rcx", "r11", "memory");
     return result;
 }
 
@@ -106,7 +109,8 @@ static int find_build(char *path, const char *name)
     if (!find(path, name)) {
         return 0;
     }
-    return put(path, folder_of(path), has_level_3() ? "../lib/hunkravy/x86-64-v3/hunkravy" : "../lib/hunkravy/x86-64-v2/hunkravy");
+    const char *build = has_level_3() ? "../lib/hunkravy/x86-64-v3/hunkravy" : "../lib/hunkravy/x86-64-v2/hunkravy";
+    return put(path, folder_of(path), build);
 }
 
 /* ---- The start */

@@ -138,6 +138,16 @@ for program in "$folder/bin/hunkravy" "$work/system/usr/bin/hunkravy"; do
 done
 has <(env -i "$folder/bin/hunkravy" --version) '^built for x86-64-v[23]$'
 
+# Each shell has its own completions.
+while read -r page installed; do
+    cmp "crates/hunkravy/manual/$page" "$folder/share/$installed" || fail "$installed is not the page for $page"
+done << 'END'
+man man/man1/hunkravy.1
+bash bash-completion/completions/hunkravy
+zsh zsh/site-functions/_hunkravy
+fish fish/vendor_completions.d/hunkravy.fish
+END
+
 # Used with no kit and nothing of the repository in PATH: from C over the shared library and over the static one, from Rust and
 # Python over what is in the archive, and the tool.
 programs=$(for program in cargo python3; do dirname "$(command -v "$program" || echo "/usr/bin/$program")"; done | paste -sd :)

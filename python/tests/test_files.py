@@ -764,7 +764,7 @@ class Tool(unittest.TestCase):
         "flag": "the head of a record is invalid",
         "too_long": "the head of a record is invalid",
         "trailing": "bytes follow its last record",
-        "damaged 0": "the key is (probably )?wrong",
+        "damaged 0": "the key is probably wrong",
     }
 
     def setUp(self) -> None:

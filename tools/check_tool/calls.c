@@ -6,6 +6,7 @@
 //   KILLS=1         kills the program at that call in place of that
 //   NO_MEMORY=N     the Nth allocation fails, and "here" is written
 //   NAME=fails      each call of this name fails, as on a file system that does not have it
+//   LATE=NAME       each call of this name fails, with an error of its own
 //   BEFORE=NAME     each call of this name comes after the command RUNS
 //   BLIND=1         after RUNS each look at a file fails
 
@@ -58,6 +59,11 @@ static int fails(const char *call, int error)
     errno = EINVAL;
     if (getenv(call) || (is_blind && strcmp(call, "statx") == 0))
         return 1;
+    const char *late = getenv("LATE");
+    if (late && strcmp(late, call) == 0) {
+        errno = error;
+        return 1;
+    }
     if (!is_turn("AT", &count))
         return 0;
     if (getenv("KILLS"))

@@ -1,7 +1,7 @@
 """What the scenes of this folder share: a folder with keys and sealed files, and runs of the program in it.
 
-TOOL is the program, START the one that starts a build, VERSION its version, and CALLS_LIBRARY the library of calls.c, as
-tools/rules.mk sets them.
+TOOL is the program, START the one that starts a build, VERSION its version, and CALLS_LIBRARY the library of calls.c,
+as tools/rules.mk sets them.
 """
 
 import os
@@ -77,6 +77,11 @@ class Scene(unittest.TestCase):
 
     def is_same(self, name, other):
         self.assertTrue(read(name) == (read(other) if isinstance(other, str) else other), f"{name} is another file")
+
+    def differ(self, *values):
+        """No two of these values have the same part of 8 bytes in any place, as random ones with zeros would."""
+        for parts in zip(*([value[at : at + 8] for at in range(0, len(value), 8)] for value in values)):
+            self.assertEqual(len(set(parts)), len(values), values)
 
     def opens(self, name, contents, key="key"):
         """The sealed file opens to these contents."""

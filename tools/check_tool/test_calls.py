@@ -96,9 +96,12 @@ class Calls(Scene):
 
     # As in a folder that was made read-only meanwhile.
     def test_names_that_cannot_be_given(self):
-        self.with_calls(3, "link=fails rename=fails unlink=fails", "seal -k key small out", ("out cannot be written", STAYS))
+        for _ in range(2):
+            fails = "link=fails rename=fails unlink=fails"
+            self.with_calls(3, fails, "seal -k key small out", ("out cannot be written", STAYS))
         self.assertFalse(os.path.exists("out"))
-        self.assertRegex(*parts(), r"\A\.out\.hunkravy-[0-9a-f]{16}\Z")
+        digits = [re.fullmatch(r"\.out\.hunkravy-([0-9a-f]{16})", name)[1] for name in parts()]
+        self.differ(*digits, "0" * 16)
 
     # ---- What happens between two calls
 
@@ -111,6 +114,13 @@ class Calls(Scene):
             self.assertEqual(len(parts()), self.said.count(STAYS))
             self.assertTrue(not os.path.exists("out") or read("out") == b"")
             self.prepare("seal")
+
+    # A pipe is exchanged for a file just before it is opened.
+    def test_a_pipe_that_becomes_a_file(self):
+        os.mkfifo("out")
+        exchanges = "BEFORE=open RUNS='echo >> opened; [ $(wc -l < opened) != 3 ] || { rm out; cp key out; }'"
+        self.with_calls(3, exchanges, "seal --force -k key small out", "^hunkravy: out exists: use --force to replace it$")
+        self.is_same("out", "key")
 
     # Just before a name is removed its folder is renamed.
     def test_a_folder_that_moves_at_the_end(self):

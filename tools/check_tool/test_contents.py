@@ -2,8 +2,10 @@
 
 import itertools
 import os
+import socket
+import subprocess
 
-from scene import Scene, read, write
+from scene import TOOL, Scene, read, write
 
 PIECE = 65_536
 
@@ -21,7 +23,9 @@ class Contents(Scene):
             self.tool(0, command, lacks=".")
         # Each file has a prefix of its own.
         self.tool(0, "seal -k key text out")
-        self.assertNotEqual(read("out")[:24], read("sealed")[:24])
+        for name in "first", "second":
+            self.tool(0, f"rekey -k key -n other out {name}")
+        self.differ(*(read(name)[:24] for name in ("sealed", "out", "first", "second")), bytes(24))
 
     # Files of full records: a message names the bytes that the damaged record had, and what follows them opens.
     def test_a_damaged_record_is_named(self):
@@ -31,12 +35,65 @@ class Contents(Scene):
             first, end = PIECE * record, min(PIECE * record + PIECE, 200_000)
             lost = rf"\(bytes {first} to {end - 1} of .*--from {end}\)"
             damaged = f"is damaged: record {record} does not open {lost}; the first {first} bytes of"
-            says = damaged if record else f"the key is wrong.*{lost}"
+            # A wrong key looks like damage in the first record, and then no other byte opens.
+            wrong = "^hunkravy: flipped: the key is probably wrong, or the file is damaged at its start$"
+            says = damaged if record else wrong
             self.tool(1, "check -k key flipped", says)
             self.shell(1, "$TOOL open -k key flipped > started", (says, "incomplete: discard it\n\\Z" if record else says))
             self.is_same("started", text[:first])
             self.tool(0, f"open -k key --from {end} flipped -")
             self.assertTrue(self.printed == text[end:])
+            if record:
+                damaged = rf"^hunkravy: flipped is damaged: record {record} does not open {lost}$"
+                self.shell(1, "$TOOL open -k key --from 5 flipped > part", damaged)
+                wrong = f"^hunkravy: flipped: the key is wrong, or the file is damaged in or before record {record}$"
+                self.tool(1, f"open -k key --from {first} flipped", wrong)
+
+    def sends(self, words, ends, contents, size):
+        """Runs the program with one end as standard input, sends the contents to the other in messages of a size, and returns
+        the exit status and what was printed."""
+        (reader, writer), how = ends, {"stdout": subprocess.PIPE, "stderr": subprocess.STDOUT}
+        with subprocess.Popen([TOOL, *words.split()], stdin=reader, **how) as process:
+            os.close(reader)
+            try:
+                for at in range(0, len(contents), size):
+                    os.write(writer, contents[at : at + size])
+            except ConnectionError:
+                pass
+            os.close(writer)
+            printed = process.communicate(timeout=300)[0]
+        return process.returncode, printed
+
+    # A pipe may keep the boundaries of messages: what does not fit in a read would be lost.
+    def test_pipes_with_messages(self):
+        text, sealed = read("text"), read("sealed")
+        for size in 4096, 4095, 3000, 1:
+            contents = text[: min(40 * size, 200_000)]
+            self.assertEqual(self.sends("seal --force -k key - out", os.pipe2(os.O_DIRECT), contents, size), (0, b""))
+            self.opens("out", contents)
+        for words in "open --force -k key - out", "rekey --force -k key -n key - out":
+            self.assertEqual(self.sends(words, os.pipe2(os.O_DIRECT), sealed, 4000), (0, b""))
+        self.opens("out", text)
+        self.assertEqual(self.sends("check -q -k key", os.pipe2(os.O_DIRECT), sealed, 4000), (0, b""))
+
+    # Messages in sockets can be longer than any buffer. Streams have none.
+    def test_sockets(self):
+        text = read("text")
+        stream, remote = socket.SOCK_STREAM, socket.create_server(("127.0.0.1", 0))
+        pairs = [socket.socketpair(socket.AF_UNIX, stream)]
+        with remote:
+            sender = socket.create_connection(remote.getsockname())
+            pairs.append((remote.accept()[0], sender))
+        for pair in pairs:
+            ends = [end.detach() for end in pair]
+            self.assertEqual(self.sends("seal --force -k key - out", ends, text, 70_000), (0, b""))
+            self.opens("out", text)
+        for kind in socket.SOCK_SEQPACKET, socket.SOCK_DGRAM:
+            ends = [end.detach() for end in socket.socketpair(socket.AF_UNIX, kind)]
+            status, printed = self.sends("seal -k key - lost", ends, text, 70_000)
+            self.assertEqual(status, 3)
+            self.assertRegex(printed, rb"\Ahunkravy: standard input is a socket of messages, which may lose a part of one: ")
+            self.nothing_left("lost")
 
     def test_truncated_pipes(self):
         self.shell(1, "timeout 20 $TOOL open -k key <(head -c 200175 sealed) out", "is truncated; the first 196608 bytes of")
@@ -55,7 +112,8 @@ class Contents(Scene):
         others = [f"other --from {first}" for first in ("0 --length 0", "10", "199999", "200000", "300000")]
         for part, output in itertools.product(past + others, ("out", "-")):
             too_far = "sealed has only 200000 bytes of contents: --from is past their end"
-            says = too_far if part in past else "sealed: the key is wrong.*"
+            wrong = "sealed: the key is (probably )?wrong, or the file is damaged (at its start|in or before record [34])"
+            says = too_far if part in past else wrong
             self.tool(1, f"open -k {part} sealed {output}", rf"\Ahunkravy: {says}\n\Z")
             self.nothing_left("out")
 

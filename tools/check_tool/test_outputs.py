@@ -15,6 +15,11 @@ REJECTED = {
         "seal -k key small >> small",
         "check -k key sealed >> sealed",
         "info sealed >> sealed",
+        "seal --force -k key - small < small",
+        "seal -k key >> small < small",
+        "open --force -k key /dev/stdin same < sealed",
+        "rekey --force -k key -n other - same < sealed",
+        "check -k key - >> same < sealed",
         # The input gets the descriptor that the output names.
         "open -k key --from 5 --force sealed /proc/self/fd/3 3>&-",
         "open -k key --force sealed /dev/fd/3 3>&-",
@@ -28,6 +33,17 @@ REJECTED = {
         "rekey --force -k key -n other sealed key",
         "seal -k key small >> key",
         "check -k key sealed >> key",
+        # The key comes from standard input, or from another descriptor.
+        "seal --force -k - small key < key",
+        "seal --force -k - small name < link",
+        "seal --force -k /dev/stdin small key < name",
+        "seal --force -k /proc/self/fd/7 small link 7< key",
+        "open --force -k - --from 5 sealed name < key",
+        "open -k - sealed >> key < name",
+        "open -k - sealed 1<> name < key",
+        "check -k - sealed >> key < key",
+        "rekey --force -k - -n other sealed key < key",
+        "rekey --force -k other -n - sealed name < key",
     ),
     "exists: use --force to replace it": ("seal -k key small sealed", "open -k other sealed link"),
     "dangling is a link to a missing file": ("seal --force -k key small dangling",),
@@ -41,6 +57,18 @@ REJECTED = {
     "became a device or a pipe": ("seal -k key /dev/null /dev/fd/3 3>&-", "seal -k key /dev/null /dev/stdout >&-"),
     "/dev/stdout": ("open --force -k key --from 5 sealed /dev/stdout >&-",),
 }
+# Standard error leads to what is read, where no message may go. Most of these would have one.
+UNSAID = (
+    "check -k key sealed &>> key",
+    "seal -k key small sealed 2>> name",
+    "seal -k other small sealed 2>> small",
+    "open -k - sealed 2>> key < link",
+    "open -k other - 2>> same < sealed",
+    "check -k small sealed 2>> small",
+    "rekey -k small -n key sealed out 2>> key",
+    "rekey -k key -n - sealed out 2>> other < other",
+    "info small 2>> small",
+)
 
 
 def snapshot():
@@ -65,6 +93,10 @@ class Outputs(Scene):
                 with self.subTest(command):
                     self.shell(3, f"$TOOL {command}", reason)
                     self.assertTrue(snapshot() == before)
+        for command in UNSAID:
+            with self.subTest(command):
+                self.shell(3, f"$TOOL {command}", lacks=".")
+                self.assertTrue(snapshot() == before)
         # Without a message nothing is written, so the output may be the input.
         self.shell(0, "$TOOL check --quiet -k key sealed >> sealed && $TOOL info --quiet sealed >> sealed")
         self.assertTrue(snapshot() == before)
@@ -100,6 +132,15 @@ class Outputs(Scene):
             command = f"exec 8<> gone; rm gone; exec $TOOL seal --force -k other small {output}"
             self.shell(3, command, "a link to a file that has no path here")
         self.is_same("gone (deleted)", "key")
+
+    # A name in the folder of a file system that is mounted twice.
+    def test_a_mount_of_the_key(self):
+        os.mkdir("mounted")
+        mount = "mount --bind . mounted && exec $TOOL seal --force -k - small mounted/key < key"
+        self.tool((3, 1), ["unshare", "--map-root-user", "--mount", "sh", "-c", mount])
+        if "key file" not in self.said:
+            self.left_out("a mount of the key's folder, since there is no right to mount")
+        self.assertIn("mounted/key is the key file standard input", self.said)
 
     # A fault of the tool must not reach the system's own devices, so these are others. No driver has the block device.
     def test_devices_and_pipes(self):

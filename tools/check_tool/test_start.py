@@ -6,7 +6,7 @@ import re
 import shutil
 import subprocess
 
-from scene import ROOT, START, TOOL, Scene
+from scene import ROOT, START, TOOL, Scene, read
 
 LEVELS = "x86-64-v2", "x86-64-v3"
 # What x86-64-v3 adds to x86-64-v2, as /proc/cpuinfo and qemu name it.
@@ -21,7 +21,8 @@ def install(folder, build):
         if build:
             shutil.copy(build, place / "hunkravy")
         else:
-            place.joinpath("hunkravy").write_text(f'#!/bin/sh\necho {level}; printf "<%s>" "$@"\n', encoding="ascii")
+            prints = f'#!/bin/sh\necho {level}; printf "<%s>" "$@"\n'
+            place.joinpath("hunkravy").write_text(prints, encoding="ascii")
             place.joinpath("hunkravy").chmod(0o755)
     os.mkdir(f"{folder}/bin")
     shutil.copy(START, f"{folder}/bin/hunkravy")
@@ -62,10 +63,11 @@ class Start(Scene):
     # The build gets the name that the caller gave, and is the same process.
     def test_the_build_takes_its_place(self):
         install("place", shutil.which("cat"))
-        with subprocess.Popen(["-a name", "/proc/self/cmdline", "/proc/self/stat"], executable="place/bin/hunkravy",
-                              stdout=subprocess.PIPE) as process:
-            printed = process.communicate()[0]
-        self.assertTrue(printed.startswith(b"-a name\0/proc/self/cmdline\0/proc/self/stat\0%d (hunkravy)" % process.pid), printed)
+        words = ["-a name", *(f"/proc/self/{what}" for what in ("cmdline", "environ", "stat"))]
+        how = {"executable": "place/bin/hunkravy", "env": {"MARK": "1"}, "stdout": subprocess.PIPE}
+        with subprocess.Popen(words, **how) as process:
+            printed = process.communicate()[0].decode()
+        self.assertTrue(printed.startswith("\0".join([*words, "MARK=1", f"{process.pid} (hunkravy)"])), printed)
 
     def test_a_build_that_is_missing(self):
         os.mkdir("bin")
@@ -87,6 +89,11 @@ class Start(Scene):
             self.left_out("an empty root, since there is no right to chroot")
         for name in "/bin/hunkravy", "/links/relative", "/absolute":
             self.tool(0, [*changes, "root", name, "--version"], r"\Ahunkravy ")
-        for words in "keygen /key", "seal -k /key /bin/hunkravy /sealed", "open -k /key /sealed /opened":
+        for words in "keygen /key", "seal -k /key /bin/hunkravy /sealed", "open -k /key /sealed /opened", "seal -k /key - /none":
             self.tool(0, [*changes, "root", "/bin/hunkravy", *words.split()], lacks=".")
         self.is_same("root/opened", START)
+        # Nothing shows that standard input is not the output.
+        seals, key = f"{' '.join(changes)} root /bin/hunkravy seal --force", read("root/key")
+        self.shell(3, f"{seals} -k - /sealed /key < root/key", "the key cannot be read from standard input: No such")
+        self.shell(3, f"{seals} -k /key - /sealed < root/sealed", "standard input cannot be read: No such")
+        self.is_same("root/key", key)

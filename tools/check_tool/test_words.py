@@ -11,8 +11,11 @@ MANUAL = ROOT / "crates/hunkravy/manual"
 
 
 class Words(Scene):
+    # What was not proved is not in the folder of a level, and makes no claim.
     def test_help_and_version(self):
         self.tool(0, "--version", [f"^hunkravy {re.escape(VERSION)}$", "proved by rattle-kit"])
+        shutil.copy(TOOL, "elsewhere")
+        self.tool(0, ["./elsewhere", "--version"], rf"\Ahunkravy {re.escape(VERSION)}\n\Z")
         if shutil.which("rt"):
             self.shell(0, '$TOOL --version | grep -xF "proved by $(rt version)"')
         os.symlink(TOOL, "\033[31m")
@@ -37,7 +40,9 @@ class Words(Scene):
             self.tool(2, words)
         self.shell(2, r"$TOOL seal -k key $'small\377' out", "an argument, or")
         self.shell(2, r"exec -a $'\377' $TOOL info sealed", "or the program's own name, is not UTF-8")
-        self.tool(3, "seal -k key . out", r"^hunkravy: \. is a folder: to seal it, run tar -c \. ")
+        os.mkdir("$(touch pasted)")
+        hint = r"^hunkravy: \$\(touch pasted\) is a folder: to seal it, run tar -c FOLDER \|"
+        self.tool(3, [TOOL, "seal", "-k", "key", "$(touch pasted)", "out"], hint)
         # The tests of the packages have the forms of a key.
         for wrong in "small", "/dev/null", "/dev/zero":
             self.tool(3, f"seal -k {wrong} small out", f"{wrong} holds no key", "chmod")
@@ -48,6 +53,7 @@ class Words(Scene):
         self.assertEqual([os.stat(name).st_mode & 0o777 for name in ("drawn", "masked")], [0o600, 0o400])
         before = read("drawn")
         self.assertRegex(before, rb"\A[0-9a-f]{64}\n\Z")
+        self.differ(before.strip(), read("masked").strip(), b"0" * 64)
         self.shell(0, "$TOOL check -q -k <(cat key) sealed && $TOOL check -q -k - sealed < key")
         self.tool(3, "keygen drawn", "drawn exists: keygen never replaces a file")
         self.is_same("drawn", before)
@@ -56,15 +62,19 @@ class Words(Scene):
         self.nothing_left("full")
 
     def test_warning_on_the_mode_of_a_key(self):
-        os.chmod("key", 0o644)
-        self.tool(0, "seal -k key small out", "lets others read or change the key")
-        self.tool(0, "seal --force -q -k key small out", lacks=".")
-        # Standard error may go into the output, which then has no warning.
+        warning = "hunkravy: the mode of {} lets others read or change the key: run chmod 600\n"
+        for mode in 0o640, 0o620, 0o604, 0o602, 0o666:
+            os.chmod("key", mode)
+            self.tool(0, "seal --force -k key small out", rf"\A{warning.format('key')}\Z")
+            self.shell(0, "$TOOL check -k - sealed < key > /dev/null", rf"\A{warning.format('standard input')}\Z")
+            self.tool(0, "seal --force -q -k key small out", lacks=".")
+        # Standard error may lead to the same place as the output.
         for command in "> out 2>&1", "2>&1 | cat > out", "/dev/stdout 2>&1 | cat > out":
             self.shell(0, f"$TOOL seal -k key small {command}")
-            self.opens("out", read("small"))
-        os.chmod("key", 0o711)
-        self.tool(0, "seal --force -k key small out", lacks="lets others")
+            self.assertTrue(read("out").startswith(warning.format("key").encode()))
+        for mode in 0o600, 0o400, 0o711:
+            os.chmod("key", mode)
+            self.tool(0, "seal --force -k key small out", lacks=".")
 
     # Names that a terminal acts on are escaped in messages.
     def test_names(self):
@@ -112,11 +122,22 @@ class Words(Scene):
         self.terminal(0, "$TOOL seal -k key small -")
         os.truncate("small", 200_000_000)
         self.tool(0, "seal -k key small vast", lacks=".")
-        for columns in 30, 80:
-            self.terminal(0, f"stty cols {columns}; $TOOL check -k key vast", [r"\[#{10}\] 100% \d+ MiB/s", "^190 MiB in"])
-            self.assertLessEqual(max(len(line) for line in re.split("[\r\n]", self.said) if "MiB" in line), 30)
+        # A line is written without wrapping, which is on again after it.
+        self.terminal(0, "$TOOL check -k key vast", [r"\[#{10}\] 100% \d+ MiB/s", "^190 MiB in"])
+        lines = re.findall("\033\\[\\?7l\r([^\r\033]*)\033\\[\\?7h", self.said)
+        self.assertLessEqual(max(len(line) for line in lines), 30)
+        self.assertNotIn("MiB/s", re.sub("\033\\[\\?7l\r[^\r\033]*\033\\[\\?7h", "", self.said))
         self.terminal(0, "$TOOL check -k key < vast", [r"\d+ MiB, \d+ MiB/s", "^190 MiB in"])
         self.terminal(0, "$TOOL check --quiet -k key vast", lacks=".")
+        self.terminal(0, "TERM=dumb $TOOL check -k key vast", lacks="\033|MiB")
+
+    # The first line shows the speed in the time that has passed, which is less than a second here, and not in a second.
+    def test_speed(self):
+        os.truncate("small", 70_000_000)
+        self.tool(0, "seal -k key small vast", lacks=".")
+        self.terminal(0, "$TOOL check -k key vast")
+        speed, seconds = (int(re.search(words, self.said)[1]) for words in (r"(\d+) MiB/s", r"MiB in (\d+) s"))
+        self.assertTrue(speed > 64 or seconds > 0, self.said)
 
     # A terminal has more after the end of an input.
     def test_an_input_that_is_typed(self):
@@ -140,9 +161,12 @@ class Words(Scene):
         self.terminal(0, "chmod 644 key; $TOOL open -k key letter.sealed", ["a letter", "lets others read or change the key"])
 
     def test_bytes_that_a_terminal_acts_on(self):
-        for bad in b"\033[2J", b"\0", b"\x7f", b"\xc2\x9b2J", b"\xc2\x80", b"\x9b2J", b"\xff", b"\xc2", b"\xe2\x98", \
+        for direction in *range(0x202A, 0x202F), *range(0x2066, 0x206A), 0x200E, 0x200F, 0x61C:
+            self.opens_letter(3, f"x{chr(direction)}y".encode(), "are not printable text")
+            self.tool(3, f"info x{chr(direction)}y", rf"x\\u\{{{direction:x}\}}y cannot be read", chr(direction))
+        for bad in b"\r", b"\r\n", b"\033[2J", b"\0", b"\x7f", b"\xc2\x9b2J", b"\xc2\x80", b"\x9b2J", b"\xff", b"\xc2", b"\xe2\x98", \
                 b"\xed\xa0\x80", b"\xc0\xaf", b"\xf5\x80\x80\x80":
             self.opens_letter(3, b"x" + bad, "are not printable text")
-            self.assertFalse(set(self.printed) & {0x1B, *range(0x7F, 0x100)}, self.printed)
+            self.assertFalse(set(self.printed.replace(b"\r\n", b"")) & {0x0D, 0x1B, *range(0x7F, 0x100)}, self.printed)
             for output in "-", '"$(tty)"':
                 self.terminal(0, f"$TOOL open -k key letter.sealed {output}")

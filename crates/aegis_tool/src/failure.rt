@@ -16,8 +16,8 @@ pub enum Failure<'a> {
     NotSealed(Name<'a>),
     #[error("{0} is a sealed file of version 1 (AGR1), which this program does not open")]
     FirstVersion(Name<'a>),
-    #[error("{0}: the key is wrong, or the prefix or first record is damaged{1}")]
-    Key(Name<'a>, Lost),
+    #[error("{0}: the key is probably wrong, or the file is damaged at its start")]
+    Key(Name<'a>),
     #[error("{0} is damaged: record {2} does not open{3}{1}")]
     Damaged(Name<'a>, Verified, u64, Lost),
     #[error("{0} is damaged: the head of a record is invalid{1}")]
@@ -30,19 +30,19 @@ pub enum Failure<'a> {
     Trailing(Name<'a>),
     #[error("{0} is longer than a sealed file can be")]
     TooLong(Name<'a>),
-    #[error("{0}: the key is wrong, or the file is damaged in or before record {1}{2}")]
-    DamagedPart(Name<'a>, u64, Lost),
+    #[error("{0}: the key is wrong, or the file is damaged in or before record {1}")]
+    DamagedPart(Name<'a>, u64),
     #[error("{0} is damaged in or before the requested part")]
     NoPart(Name<'a>),
     #[error("{0} is truncated in or before the requested part")]
     TruncatedPart(Name<'a>),
     #[error("{0} has only {1} bytes of contents: --from is past their end")]
     PastBytes(Name<'a>, u64),
-    #[error("{0} changed while it was read: try again")]
-    Changed(Name<'a>),
     #[error("{0} cannot be read: {1}")]
     Input(Name<'a>, io::Error),
-    #[error("{0} is a folder: to seal it, run tar -c {0} | hunkravy seal -k KEY - OUT")]
+    #[error("{0} is a socket of messages, which may lose a part of one: read from a pipe or a file")]
+    Messages(Name<'a>),
+    #[error("{0} is a folder: to seal it, run tar -c FOLDER | hunkravy seal -k KEY - OUT")]
     Folder(Name<'a>),
     #[error("{0} cannot be written: {1}")]
     Output(Name<'a>, io::Error),
@@ -86,6 +86,9 @@ pub enum Failure<'a> {
     NoFile,
     #[error("standard input can be used only once: give files for IN and for any second key")]
     StandardKey,
+    // It is not printed.
+    #[error("standard error leads to what is read")]
+    Unsaid,
     #[error("no command: see hunkravy --help")]
     NoCommand,
     #[error("out of memory")]
@@ -152,7 +155,7 @@ impl<'a> Failure<'a> {
         match fault {
             RecordError::Header if seen.is_first_version => Failure::FirstVersion(input),
             RecordError::Header => Failure::NotSealed(input),
-            RecordError::Damaged(0) => Failure::Key(input, seen.lost(0)),
+            RecordError::Damaged(0) => Failure::Key(input),
             RecordError::Damaged(number) => {
                 Failure::Damaged(input, verified, number, seen.lost(number))
             }
@@ -169,10 +172,9 @@ impl<'a> Failure<'a> {
         match error {
             PartError::FirstVersion => Failure::FirstVersion(name),
             PartError::PastBytes(bytes) => Failure::PastBytes(name, bytes),
-            PartError::Changed => Failure::Changed(name),
             PartError::File(FileError::Stream(fault)) => match fault {
-                RecordError::Damaged(number) => {
-                    Failure::DamagedPart(name, number, seen.lost(number))
+                RecordError::Damaged(number) if 0 < number && number == seen.start.number => {
+                    Failure::DamagedPart(name, number)
                 }
                 RecordError::Flag | RecordError::TooLong => Failure::NoPart(name),
                 RecordError::Truncated => Failure::TruncatedPart(name),
@@ -252,8 +254,6 @@ pub enum PartError {
     FirstVersion,
     /// The part begins after the last byte of the contents. Their length is the field.
     PastBytes(u64),
-    /// The record in which the part begins was found, and another was there when it was read.
-    Changed,
 }
 
 impl From<FileError> for PartError {

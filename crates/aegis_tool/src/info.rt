@@ -2,7 +2,7 @@
 
 use crate::command::{Place, Transfer};
 use crate::failure::{Failure, PartError, printed};
-use crate::output::refuse_inputs;
+use crate::output::{refuse_errors, refuse_inputs};
 use crate::progress::Counted;
 use crate::range::{lengths, read_prefix};
 use crate::shown::Name;
@@ -88,6 +88,7 @@ fn outline_of_file<'a>(rt: &HostRuntime, name: &'a str) -> Result<Outline, Failu
 /// Prints the number of records and of bytes of contents of a sealed file, if it consists of whole records. No tag is
 /// verified.
 pub fn info<'a>(rt: &HostRuntime, paths: Transfer<'a>) -> Result<(), Failure<'a>> {
+    refuse_errors(rt, paths.input)?;
     if !paths.quiet {
         refuse_inputs(rt, paths, &[])?;
     }

@@ -1,16 +1,17 @@
 //! Key files: 64 hexadecimal digits and a line feed.
 
+use crate::command::Place;
 use crate::failure::Failure;
-use crate::output::Identity;
+use crate::output::{Identity, STANDARD_INPUT};
 use crate::shown::Name;
 use aegis::aegis256::Key;
 use aegis_files::{FileError, fill};
 use hex::FromHex;
-use std::fs::File;
+use std::fs::{File, Metadata};
 use std::io::Read;
 use std::os::unix::fs::MetadataExt;
 use std::random::RandomSource;
-use std::{io, str};
+use std::{fs, io, str};
 
 // The bits of a file's mode that let others than its owner read or write it.
 const OTHERS: u32 = 0o066;
@@ -53,48 +54,81 @@ fn read_key<R: Read>(input: &mut R) -> io::Result<Option<Key>> {
 pub struct KeyFile<'a> {
     pub key: Key,
     pub name: Name<'a>,
-    /// The file's identity, if it is a regular one.
-    pub identity: Option<Identity>,
+    // The file's identity, unless it is standard input.
+    identity: Option<Identity>,
+    is_standard: bool,
+}
+
+impl<'a> KeyFile<'a> {
+    /// Returns the identity of the file that the key was read from.
+    pub fn identity(&self, rt: &HostRuntime) -> Result<Option<Identity>, Failure<'a>> {
+        if !self.is_standard {
+            return Ok(self.identity);
+        }
+        Identity::of_standard_input(rt).map_err(|error| Failure::KeyFile(self.name, error))
+    }
 }
 
 /// The name of a key file that is standard input.
 pub const STANDARD: &str = "-";
 
-// Reads the key of standard input.
-fn read_standard<'a>(rt: &HostRuntime) -> Result<KeyFile<'a>, Failure<'a>> {
-    let name = Name("standard input");
-    match read_key(&mut rt.stdin()) {
-        Ok(Some(key)) => Ok(KeyFile {
-            key,
-            name,
-            identity: None,
-        }),
+/// Returns the place of a key file.
+pub fn place_of(name: &str) -> Place<'_> {
+    match name {
+        STANDARD => Place::Standard,
+        _ => Place::File(name),
+    }
+}
+
+// The key that an input has.
+fn key_in<'a, R: Read>(input: &mut R, name: Name<'a>) -> Result<Key, Failure<'a>> {
+    match read_key(input) {
+        Ok(Some(key)) => Ok(key),
         Ok(None) => Err(Failure::NoKey(name)),
         Err(error) => Err(Failure::KeyFile(name, error)),
     }
+}
+
+// Warns if the mode of a key file lets others read or change it, unless `quiet`.
+fn warn(rt: &HostRuntime, name: Name<'_>, found: &Metadata, quiet: bool) {
+    if !quiet && found.is_file() && found.mode() & OTHERS != 0 {
+        let _ = eprintln!(rt;
+            "hunkravy: the mode of {name} lets others read or change the key: run chmod 600"
+        );
+    }
+}
+
+// Reads the key of standard input.
+fn read_standard<'a>(rt: &HostRuntime, quiet: bool) -> Result<KeyFile<'a>, Failure<'a>> {
+    let name = Name("standard input");
+    let key = key_in(&mut rt.stdin(), name)?;
+    if let Ok(found) = fs::metadata(rt, STANDARD_INPUT) {
+        warn(rt, name, &found, quiet);
+    }
+    Ok(KeyFile {
+        key,
+        name,
+        identity: None,
+        is_standard: true,
+    })
 }
 
 /// Reads the key of a key file, or of standard input if the name is [`STANDARD`]. Warns on standard error if the mode
 /// of the file lets others read or change it, unless `quiet`.
 pub fn read<'a>(rt: &HostRuntime, name: &'a str, quiet: bool) -> Result<KeyFile<'a>, Failure<'a>> {
     if name == STANDARD {
-        return read_standard(rt);
+        return read_standard(rt, quiet);
     }
-    let unreadable = |error| Failure::KeyFile(Name(name), error);
-    let mut file = File::open(rt, name).map_err(unreadable)?;
-    let Some(key) = read_key(&mut file).map_err(unreadable)? else {
-        return Err(Failure::NoKey(Name(name)));
-    };
+    let name = Name(name);
+    let unreadable = |error| Failure::KeyFile(name, error);
+    let mut file = File::open(rt, name.0).map_err(unreadable)?;
+    let key = key_in(&mut file, name)?;
     let found = file.metadata().map_err(unreadable)?;
-    if found.is_file() && found.mode() & OTHERS != 0 && !quiet {
-        let shown = Name(name);
-        let _ = eprintln!(rt;
-            "hunkravy: the mode of {shown} lets others read or change the key: run chmod 600"
-        );
-    }
+    warn(rt, name, &found, quiet);
     Ok(KeyFile {
         key,
-        name: Name(name),
+        name,
         identity: Identity::of(&found),
+        is_standard: false,
     })
 }

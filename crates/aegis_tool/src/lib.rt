@@ -10,6 +10,7 @@ mod output;
 mod progress;
 mod range;
 mod shown;
+mod socket;
 mod terminal;
 mod transfer;
 mod version;
@@ -24,25 +25,29 @@ use std::io::ErrorKind;
 fn act<'a>(rt: &HostRuntime, action: Option<Action<'a>>) -> Result<(), Stopped<'a>> {
     match action {
         Some(Action::Keygen { output }) => Ok(transfer::keygen(rt, output)?),
-        Some(Action::Seal(paths)) => transfer::seal(rt, at_the_start(rt, paths)),
-        Some(Action::Open(paths)) => transfer::open(rt, at_the_start(rt, paths)),
+        Some(Action::Seal(paths)) => transfer::seal(rt, at_the_start(rt, paths)?),
+        Some(Action::Open(paths)) => transfer::open(rt, at_the_start(rt, paths)?),
         Some(Action::OpenPart { span, paths }) => {
-            transfer::open_part(rt, span, at_the_start(rt, paths))
+            transfer::open_part(rt, span, at_the_start(rt, paths)?)
         }
         Some(Action::Rekey { new_key, paths }) => {
-            transfer::rekey(rt, new_key, at_the_start(rt, paths))
+            transfer::rekey(rt, new_key, at_the_start(rt, paths)?)
         }
-        Some(Action::Check(paths)) => Ok(transfer::check(rt, paths)?),
+        Some(Action::Check(paths)) => Ok(transfer::check(rt, at_the_start(rt, paths)?)?),
         Some(Action::Info(paths)) => Ok(info::info(rt, paths)?),
         None => Err(Stopped::from(Failure::NoCommand)),
     }
 }
 
 // Says what failed, if anything did, and returns the exit status. It is the same if standard error cannot be written.
+// Nothing is written to a standard error that leads to a key or an input.
 fn end(rt: &HostRuntime, ended: Result<(), Stopped<'_>>) -> u8 {
     let Err(stopped) = ended else {
         return 0;
     };
+    if matches!(stopped.failure, Failure::Unsaid) {
+        return FAILED;
+    }
     let _ = eprintln!(rt; "hunkravy: {}", stopped.failure);
     if stopped.incomplete {
         let _ = eprintln!(rt; "hunkravy: the output is incomplete: discard it");

@@ -6,11 +6,12 @@
 //! program is opened, removed or replaced. Exception: OUT with `--force`. If OUT is a link, all this happens beside the
 //! file that it leads to. A device or a pipe is written directly.
 //!
-//! No output has one of the three standard descriptors, which are free if the caller has closed them: a message would
-//! be written into it. `try_clone` takes the lowest descriptor after those.
+//! No output that the program opens has one of the three standard descriptors, which are free if the caller has closed
+//! them: a message would be written into it. `try_clone` takes the lowest descriptor after those.
 
 use crate::command::{Place, Transfer};
 use crate::failure::Failure;
+use crate::key;
 use crate::key::KeyFile;
 use crate::shown::Name;
 use std::fs::{File, Metadata, OpenOptions};
@@ -43,42 +44,62 @@ impl Identity {
         }
     }
 
-    /// Returns the identity of a file, if it is a regular one.
+    /// Returns the identity of what was found. Exceptions: a terminal or another character device, and a socket, since
+    /// bytes written to these are not read from them again.
     pub fn of(found: &Metadata) -> Option<Self> {
-        if found.is_file() {
-            Some(Identity::new(found))
-        } else {
+        if found.file_type().is_char_device() || found.file_type().is_socket() {
             None
+        } else {
+            Some(Identity::new(found))
         }
     }
 
-    // The identity of the file of this name, if there is one, but of a terminal or another character device, and of a
-    // socket: what is written to these is not read from them again.
+    // The identity of the file of this name, if there is one.
     fn at(rt: &HostRuntime, name: &str) -> io::Result<Option<Self>> {
         match fs::metadata(rt, name) {
-            Ok(found) if found.file_type().is_char_device() || found.file_type().is_socket() => {
-                Ok(None)
-            }
-            Ok(found) => Ok(Some(Identity::new(&found))),
+            Ok(found) => Ok(Identity::of(&found)),
             Err(error) if error.kind() == ErrorKind::NotFound => Ok(None),
             Err(error) => Err(error),
         }
     }
+
+    /// Returns the identity of standard input. It is an error if it has no name: it is closed, or there is no `/proc`.
+    pub fn of_standard_input(rt: &HostRuntime) -> io::Result<Option<Self>> {
+        Ok(Identity::of(&fs::metadata(rt, STANDARD_INPUT)?))
+    }
 }
 
-// The name of a place, of which the standard one has this name.
-fn name_or<'a>(place: Place<'a>, standard: &'a str) -> &'a str {
-    match place {
+/// The name of standard input.
+pub const STANDARD_INPUT: &str = "/proc/self/fd/0";
+
+const STANDARD_OUTPUT: &str = "/proc/self/fd/1";
+
+const STANDARD_ERROR: &str = "/proc/self/fd/2";
+
+// The name of an output.
+fn name_of(output: Place<'_>) -> &str {
+    match output {
         Place::File(name) => name,
-        _ => standard,
+        _ => STANDARD_OUTPUT,
+    }
+}
+
+// The identity of an input.
+fn identity_of(rt: &HostRuntime, input: Place<'_>) -> io::Result<Option<Identity>> {
+    match input {
+        Place::File(name) => Identity::at(rt, name),
+        _ => Identity::of_standard_input(rt),
     }
 }
 
 // Whether an output is named that is the pipe of standard input: only this run could read what is written there.
 fn is_own_pipe(rt: &HostRuntime, output: Place<'_>) -> bool {
-    match (output, fs::metadata(rt, "/dev/stdin")) {
-        (Place::File(name), Ok(own)) => own.file_type().is_fifo()
-            && are_one(rt, name, "/dev/stdin"),
+    let Place::File(name) = output else {
+        return false;
+    };
+    match (fs::metadata(rt, name), fs::metadata(rt, STANDARD_INPUT)) {
+        (Ok(found), Ok(own)) => own.file_type().is_fifo()
+            && Identity::new(&found) == Identity::new(&own),
         _ => false,
     }
 }
@@ -91,7 +112,7 @@ pub fn refuse_inputs<'a>(
     keys: &[&KeyFile<'a>],
 ) -> Result<(), Failure<'a>> {
     let (input, output) = (paths.input, paths.output);
-    let written = Identity::at(rt, name_or(output, "/dev/stdout")).map_err(|error| Failure::Output(
+    let written = Identity::at(rt, name_of(output)).map_err(|error| Failure::Output(
         output.output_name(),
         error,
     ))?;
@@ -99,14 +120,11 @@ pub fn refuse_inputs<'a>(
         return Ok(());
     }
     for key in keys {
-        if key.identity == written {
+        if key.identity(rt)? == written {
             return Err(Failure::OverKey(output.output_name(), key.name));
         }
     }
-    let read = Identity::at(rt, name_or(input, "/dev/stdin")).map_err(|error| Failure::Input(
-        input.input_name(),
-        error,
-    ))?;
+    let read = identity_of(rt, input).map_err(|error| Failure::Input(input.input_name(), error))?;
     if read == written {
         return Err(Failure::SameFile(output.output_name()));
     }
@@ -127,31 +145,32 @@ pub fn is_terminal(rt: &HostRuntime, output: Place<'_>) -> bool {
     }
 }
 
-// Whether two names are of one file, of whatever kind.
-fn are_one(rt: &HostRuntime, name: &str, other: &str) -> bool {
-    match (fs::metadata(rt, name), fs::metadata(rt, other)) {
-        (Ok(one), Ok(two)) => Identity::new(&one) == Identity::new(&two),
-        _ => false,
+/// Returns an error if standard error leads to what is read: a message would be written there.
+pub fn refuse_errors<'a>(rt: &HostRuntime, input: Place<'a>) -> Result<(), Failure<'a>> {
+    match (Identity::at(rt, STANDARD_ERROR), identity_of(rt, input)) {
+        (Ok(written), Ok(read)) if written.is_some() && written == read => Err(Failure::Unsaid),
+        _ => Ok(()),
     }
 }
 
-/// Returns the paths as they are when the run begins: with only errors printed if standard error goes into the output
-/// and that is no terminal, and whether the output is new.
-pub fn at_the_start<'a>(rt: &HostRuntime, paths: Transfer<'a>) -> Transfer<'a> {
-    let output = name_or(paths.output, "/dev/stdout");
-    let is_output = !is_terminal(rt, paths.output) && are_one(rt, output, "/dev/stderr");
-    let mut paths = paths;
-    paths.quiet = paths.quiet || is_output;
-    paths.is_new = matches!(
-        fs::metadata(rt, output),
+/// Returns the paths as they are when the run begins: with whether the output is new. It is an error if a message would
+/// be written into the key file or the input.
+pub fn at_the_start<'a>(
+    rt: &HostRuntime,
+    paths: Transfer<'a>,
+) -> Result<Transfer<'a>, Failure<'a>> {
+    refuse_errors(rt, key::place_of(paths.key))?;
+    refuse_errors(rt, paths.input)?;
+    let is_new = matches!(
+        fs::metadata(rt, name_of(paths.output)),
         Err(error) if error.kind() == ErrorKind::NotFound
     );
-    paths
+    Ok(Transfer { is_new, ..paths })
 }
 
 /// Returns an error if the output is new and names a device or a pipe, which is then the input by its descriptor.
 pub fn refuse_own_descriptor<'a>(rt: &HostRuntime, paths: Transfer<'a>) -> Result<(), Failure<'a>> {
-    match fs::metadata(rt, name_or(paths.output, "/dev/stdout")) {
+    match fs::metadata(rt, name_of(paths.output)) {
         Ok(found) if paths.is_new && !found.is_file() => Err(Failure::Appeared(
             paths.output.output_name(),
         )),
@@ -202,9 +221,10 @@ fn find<'a>(rt: &HostRuntime, name: &'a str) -> Result<Found, Failure<'a>> {
     if found.is_dir() || found.file_type().is_block_device() {
         return Err(Failure::NoOutput(Name(name)));
     }
-    match Identity::of(&found) {
-        Some(identity) => Ok(Found::File(identity)),
-        None => Ok(Found::Stream),
+    if found.is_file() {
+        Ok(Found::File(Identity::new(&found)))
+    } else {
+        Ok(Found::Stream)
     }
 }
 

@@ -10,10 +10,12 @@ use std::time::Instant;
 /// The number of bytes from one message to the next.
 const STEP: u64 = 64 * 1024 * 1024;
 
+const KIBIBYTE: u64 = 1024;
+
 const MEBIBYTE: u64 = 1024 * 1024;
 
-/// The seconds that pass before a rate forgets what was read earlier.
-const WINDOW: u64 = 4;
+/// The milliseconds that pass before a rate forgets what was read earlier.
+const WINDOW: u64 = 4000;
 
 // What is done, in tenths.
 const BARS: [&str; 11] = [
@@ -40,17 +42,20 @@ pub struct Display<'a> {
 }
 
 impl Display<'_> {
-    // The seconds since the beginning. A clock that fails stands at 0.
-    fn seconds(&self) -> u64 {
+    // The milliseconds since the beginning. A clock that fails stands at 0.
+    fn milliseconds(&self) -> u64 {
         match self.begun.elapsed(self.terminal) {
-            Ok(time) => time.as_secs(),
+            Ok(time) => time
+                .as_secs()
+                .saturating_mul(1000)
+                .saturating_add(time.subsec_millis() as u64),
             Err(_) => 0,
         }
     }
 
-    // Shows how much was read, and how many bytes a second, in at most 30 columns.
+    // Shows how much was read, and how many MiB a second, in at most 30 columns. A terminal with fewer keeps the line
+    // in one row, since wrapping is turned off while it is written.
     fn show(&self, read: u64, rate: u64) {
-        let rate = rate / MEBIBYTE;
         let _ = match self.length {
             Some(length) => {
                 let done = (read / (length / 100).max(1)).min(100);
@@ -58,24 +63,36 @@ impl Display<'_> {
                     Some(bar) => *bar,
                     None => "",
                 };
-                eprint!(self.terminal; "\r[{}] {}% {} MiB/s  ", bar, done, rate)
+                eprint!(self.terminal; "\x1b[?7l\r[{}] {}% {} MiB/s  \x1b[?7h", bar, done, rate)
             }
-            None => eprint!(self.terminal; "\r{} MiB, {} MiB/s  ", read / MEBIBYTE, rate),
+            None => {
+                let read = read / MEBIBYTE;
+                eprint!(self.terminal; "\x1b[?7l\r{} MiB, {} MiB/s  \x1b[?7h", read, rate)
+            }
         };
     }
 }
 
-// How much was read after so many seconds.
+// How much was read after so many milliseconds.
 #[derive(Clone, Copy)]
 struct Mark {
     read: u64,
-    seconds: u64,
+    milliseconds: u64,
 }
 
 const BEGINNING: Mark = Mark {
     read: 0,
-    seconds: 0,
+    milliseconds: 0,
 };
+
+impl Mark {
+    // How many MiB were read a second since another mark.
+    fn rate_since(&self, older: Mark) -> u64 {
+        let read = self.read.saturating_sub(older.read);
+        let milliseconds = self.milliseconds.saturating_sub(older.milliseconds);
+        (read / KIBIBYTE).saturating_mul(1000) / milliseconds.max(1) / KIBIBYTE
+    }
+}
 
 /// A reader that shows how much was read from it. Once it has ended, it is not read again: a terminal, a pipe or a file
 /// might go on.
@@ -121,15 +138,13 @@ impl<'a, R: Read + Drop> Counted<'a, R> {
     fn show(&mut self, display: Display<'_>) {
         let now = Mark {
             read: self.read,
-            seconds: display.seconds(),
+            milliseconds: display.milliseconds(),
         };
-        if now.seconds.saturating_sub(self.newer.seconds) >= WINDOW {
+        if now.milliseconds.saturating_sub(self.newer.milliseconds) >= WINDOW {
             self.older = self.newer;
             self.newer = now;
         }
-        let read = now.read.saturating_sub(self.older.read);
-        let seconds = now.seconds.saturating_sub(self.older.seconds);
-        display.show(now.read, read / seconds.max(1));
+        display.show(now.read, now.rate_since(self.older));
     }
 
     /// Ends the line that shows the progress, if one was shown, and prints how much was read in which time.
@@ -137,8 +152,8 @@ impl<'a, R: Read + Drop> Counted<'a, R> {
         if self.said > 0 {
             if let Some(display) = self.display {
                 self.show(display);
-                let (read, seconds) = (self.read / MEBIBYTE, display.seconds());
-                let _ = eprintln!(display.terminal; "\n{} MiB in {} s", read, seconds);
+                let (read, milliseconds) = (self.read / MEBIBYTE, display.milliseconds());
+                let _ = eprintln!(display.terminal; "\n{} MiB in {} s", read, milliseconds / 1000);
             }
         }
     }

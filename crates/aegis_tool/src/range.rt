@@ -34,13 +34,12 @@ pub struct Start {
 }
 
 impl Start {
-    /// Returns an error if the part begins after the last one of the records that were opened.
+    /// Returns an error if the part begins after the last record that was opened, which is then the file's last one.
     pub fn reached(&self, opened: &OpenedRange) -> Result<(), PartError> {
-        let OpenedRange { end, is_last, .. } = *opened;
-        match (self.from <= end.before, is_last) {
-            (true, _) => Ok(()),
-            (false, true) => Err(PartError::PastBytes(end.before)),
-            (false, false) => Err(PartError::Changed),
+        if self.from <= opened.end.before {
+            Ok(())
+        } else {
+            Err(PartError::PastBytes(opened.end.before))
         }
     }
 }

@@ -16,9 +16,20 @@ pub struct TextOnly<W: Write + Drop> {
     begun_len: usize,
 }
 
+// Whether a character sets the direction of a text, and so where the terminal shows the characters after it.
+fn is_direction(character: char) -> bool {
+    matches!(
+        character,
+        '\u{61c}' | '\u{200e}' | '\u{200f}' | '\u{202a}'..='\u{202e}' | '\u{2066}'..='\u{206f}'
+    )
+}
+
 // Whether a terminal shows the character as a part of a text, and does not act on it.
 fn is_text(character: char) -> bool {
-    matches!(character, '\t' | '\n' | '\r') || !character.is_control()
+    match character {
+        '\t' | '\n' => true,
+        _ => !character.is_control() && !is_direction(character),
+    }
 }
 
 // How many of the bytes are whole characters of a text. Only the first bytes of one more may follow them.

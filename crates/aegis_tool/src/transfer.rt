@@ -5,20 +5,22 @@ use crate::failure::{Failure, PartError, Seen, Stopped, printed};
 use crate::key;
 use crate::key::KeyFile;
 use crate::output::{
-    Target, is_terminal, open_target, refuse_inputs, refuse_own_descriptor, refuse_terminal,
+    Target, is_terminal, open_target, refuse_errors, refuse_inputs, refuse_own_descriptor,
+    refuse_terminal,
 };
 use crate::progress::{Counted, Display, Measured};
 use crate::range::{Start, is_reachable, start_of};
 use crate::shown::Name;
+use crate::socket::keeps_messages;
 use crate::terminal::TextOnly;
 use aegis::aegis256::Key;
 use aegis_files::{FileError, open_range, open_stream, rekey_stream, seal_stream};
 use std::alloc::Global;
 use std::fs::File;
-use std::io;
-use std::io::{IsTerminal, Read, Write};
+use std::io::{BufReader, IsTerminal, Read, Write};
 use std::random::RandomSource;
 use std::time::Instant;
+use std::{env, io};
 
 /// The context that every file is sealed under, with its key and its prefix.
 const CONTEXT: [u8; 11] = *b"hunkravy v1";
@@ -160,9 +162,17 @@ fn write_to<'a, R: Read + Drop>(
     }
 }
 
-// Progress is shown on standard error if it is a terminal.
+// Whether the terminal only shows what is written to it, and acts on no escape sequence.
+fn is_dumb(rt: &HostRuntime) -> bool {
+    match env::var(rt, "TERM") {
+        Ok(name) => name.as_str() == "dumb",
+        Err(_) => false,
+    }
+}
+
+// Progress is shown on standard error if it is a terminal that can keep it in one row.
 fn display<'r>(rt: &'r HostRuntime, quiet: bool, length: Option<u64>) -> Option<Display<'r>> {
-    if quiet || !rt.stderr().is_terminal() {
+    if quiet || !rt.stderr().is_terminal() || is_dumb(rt) {
         return None;
     }
     let begun = Instant::now(rt).ok()?;
@@ -180,6 +190,21 @@ fn length_of(file: &File) -> Option<u64> {
         Some(found.len())
     } else {
         None
+    }
+}
+
+// The most bytes of a message that a pipe keeps in one piece (`PIPE_BUF`). A shorter read would lose the rest of it.
+const MESSAGE_BYTES: usize = 4096;
+
+// An input that is counted. It is read at least one message of a pipe at a time.
+fn counted<'a, 'r, R: Read + Drop>(
+    rt: &HostRuntime,
+    inner: R,
+    shown: Option<Display<'r>>,
+) -> Result<Counted<'r, BufReader<R>>, Failure<'a>> {
+    match BufReader::with_capacity(rt.alloc(), MESSAGE_BYTES, inner) {
+        Ok(reader) => Ok(Counted::new(reader, shown)),
+        Err(_) => Err(Failure::OutOfMemory),
     }
 }
 
@@ -211,13 +236,13 @@ fn transfer<'a>(
         Place::File(name) => {
             let file = open_input(rt, name, paths, keys)?;
             let shown = display(rt, quiet, length_of(&file));
-            let mut input = Counted::new(file, shown);
+            let mut input = counted(rt, file, shown)?;
             let written = write_to(rt, task, paths, &mut input);
             input.end();
             written
         }
         _ => {
-            let mut input = Counted::new(rt.stdin(), display(rt, quiet, None));
+            let mut input = counted(rt, rt.stdin(), display(rt, quiet, None))?;
             let written = write_to(rt, task, paths, &mut input);
             input.end();
             written
@@ -242,11 +267,22 @@ fn draw_prefix<'a>(rt: &HostRuntime) -> Result<[u8; 24], Failure<'a>> {
     }
 }
 
+// Returns an error if the input may lose bytes. The other commands would see that.
+fn refuse_messages<'a>(rt: &HostRuntime, input: Place<'a>) -> Result<(), Failure<'a>> {
+    match input {
+        Place::Default | Place::Standard if keeps_messages(rt)? => Err(Failure::Messages(
+            input.input_name(),
+        )),
+        _ => Ok(()),
+    }
+}
+
 /// Seals a file under a random prefix.
 pub fn seal<'a>(rt: &HostRuntime, paths: Transfer<'a>) -> Result<(), Stopped<'a>> {
     let key = key_of(rt, paths)?;
     refuse_inputs(rt, paths, &[&key])?;
     refuse_terminal(rt, paths.output)?;
+    refuse_messages(rt, paths.input)?;
     let prefix = draw_prefix(rt)?;
     let task = Task::Seal {
         key: key.key,
@@ -290,10 +326,11 @@ pub fn rekey<'a>(
     new_key: &'a str,
     paths: Transfer<'a>,
 ) -> Result<(), Stopped<'a>> {
-    let key = key_of(rt, paths)?;
     if new_key == key::STANDARD && paths.key == key::STANDARD {
         return Err(Stopped::from(Failure::StandardKey));
     }
+    refuse_errors(rt, key::place_of(new_key))?;
+    let key = key_of(rt, paths)?;
     let new = key_of(
         rt,
         Transfer {
@@ -332,13 +369,13 @@ pub fn check<'a>(rt: &HostRuntime, paths: Transfer<'a>) -> Result<(), Failure<'a
         Place::File(name) => {
             let file = File::open(rt, name).map_err(|error| Failure::Input(Name(name), error))?;
             let shown = display(rt, paths.quiet, length_of(&file));
-            let mut input = Counted::new(file, shown);
+            let mut input = counted(rt, file, shown)?;
             let checked = check_from(rt, &task, paths, &mut input);
             input.end();
             checked?
         }
         _ => {
-            let mut input = Counted::new(rt.stdin(), display(rt, paths.quiet, None));
+            let mut input = counted(rt, rt.stdin(), display(rt, paths.quiet, None))?;
             let checked = check_from(rt, &task, paths, &mut input);
             input.end();
             checked?

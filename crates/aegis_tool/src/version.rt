@@ -12,14 +12,15 @@ const KIT: &str = "rattle-kit-13f logic dac8208d650f15bf";
 // The levels of x86-64 that the program is built for. Each build is installed in a folder of its level's name.
 const LEVELS: [&str; 2] = ["x86-64-v2", "x86-64-v3"];
 
-// The level that this program was built for, if it is installed in its level's folder.
+// The level that this program was built for, if it is in its level's folder.
 fn level(program: &str) -> Option<&'static str> {
     let folder = std::path::Path::new(program).parent()?;
     let name = folder.file_name()?;
     LEVELS.iter().copied().find(|level| *level == name)
 }
 
-/// Returns the version, the level that the program was built for if that is known, and the toolchain.
+/// Returns the version, and of a program in its level's folder, where only proved programs are built and installed, the
+/// level and the toolchain.
 pub fn text(rt: &HostRuntime) -> Result<String, AllocError> {
     let program = match env::current_exe(rt) {
         Ok(path) => path.into_string(),
@@ -27,6 +28,6 @@ pub fn text(rt: &HostRuntime) -> Result<String, AllocError> {
     };
     match level(program.as_str()) {
         Some(level) => format!(in rt.alloc(); "{VERSION}\nbuilt for {level}\nproved by {KIT}"),
-        None => format!(in rt.alloc(); "{VERSION}\nproved by {KIT}"),
+        None => String::from_str(rt.alloc(), VERSION),
     }
 }
