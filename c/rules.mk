@@ -167,7 +167,7 @@ check-musl: $(addprefix check-musl-,both $(RUNNABLE))
 
 check-musl-%: $(OUT)/%/libhunkravy.a
 	for program in $(C_TESTS); do \
-		musl-gcc -static -std=c99 $(C_FLAGS) -O2 c/tests/$$program.c $< -o $(OUT)/$*/$$program-musl && \
+		musl-gcc -static -std=c99 -D_DEFAULT_SOURCE $(C_FLAGS) -O2 c/tests/$$program.c $< -o $(OUT)/$*/$$program-musl && \
 		LEVEL=$(patsubst x86-64-v%,%,$(filter x86%,$*)) $(OUT)/$*/$$program-musl $(STORED_LINES) || exit 1; \
 	done
 

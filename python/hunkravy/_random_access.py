@@ -168,21 +168,21 @@ class RandomAccessFile(variants.Secret):
     16 MiB are changed. **After a crash all changes of a commit are there, or none.** A commit writes them to the journal
     first, the file `PATH.journal`, and removes it at the end. Opening completes a commit that was interrupted.
 
-    `key` has 16 bytes for the variants of AEGIS-128, and 32 for the others. The file is locked while it is open, and
+    `key` has `cipher.KEY_BYTES` bytes. The file is locked while it is open, and
     belongs to the process that opened it. Threads take turns. Each error is a `RandomAccessError` or an `OSError`.
 
     In a `with` block an exception discards the changes. A file that is dropped without `close` loses them too.
     """
 
     def __init__(
-        self, path: Union[str, os.PathLike[str]], key: _ReadableBuffer, *, variant: type[variants.Variant] = variants.Aegis256
+        self, path: Union[str, os.PathLike[str]], key: _ReadableBuffer, *, cipher: type[variants.Variant] = variants.Aegis256
     ) -> None:
         """Opens the file at a path, and completes a commit that was interrupted, or discards all of it.
 
         Raises "header" if there is no file of this variant under the key, "journal" if its journal is that of another
         file or state, "locked" or "moved". Nothing is then changed.
         """
-        self._begin(path, key, variant, os.O_RDWR)
+        self._begin(path, key, cipher, os.O_RDWR)
         try:
             self._recover()
             self._page_size, self._id, self._counter, self._stored = self._header()
@@ -197,7 +197,7 @@ class RandomAccessFile(variants.Secret):
         path: Union[str, os.PathLike[str]],
         key: _ReadableBuffer,
         *,
-        variant: type[variants.Variant] = variants.Aegis256,
+        cipher: type[variants.Variant] = variants.Aegis256,
         page_size: Optional[int] = None,
     ) -> Self:
         """Creates an empty file at a path where there is none, and opens it.
@@ -205,11 +205,11 @@ class RandomAccessFile(variants.Secret):
         `page_size` is from 256 to 65,536 bytes of contents. A page of the default size fills a block of 4,096 bytes.
         """
         self = cls.__new__(cls)
-        self._begin(path, key, variant, os.O_RDWR | os.O_CREAT | os.O_EXCL)
+        self._begin(path, key, cipher, os.O_RDWR | os.O_CREAT | os.O_EXCL)
         try:
             if self._journal.size():
                 raise RandomAccessError("journal")
-            size = PAGE_BLOCK_BYTES - variant.NONCE_BYTES - TAG_BYTES if page_size is None else operator.index(page_size)
+            size = PAGE_BLOCK_BYTES - cipher.NONCE_BYTES - TAG_BYTES if page_size is None else operator.index(page_size)
             self._page_size, self._id, self._counter, self._stored, self._size = size, os.urandom(ID_BYTES), 0, 0, 0
             write_all(self._file, self._seal_header(0), 0)
             os.fsync(self._file)
@@ -221,7 +221,7 @@ class RandomAccessFile(variants.Secret):
         return self
 
     def _begin(
-        self, path: Union[str, os.PathLike[str]], key: _ReadableBuffer, variant: type[variants.Variant], flags: int
+        self, path: Union[str, os.PathLike[str]], key: _ReadableBuffer, cipher: type[variants.Variant], flags: int
     ) -> None:
         """Opens and locks the file."""
         self._turn = threading.RLock()
@@ -230,8 +230,8 @@ class RandomAccessFile(variants.Secret):
         self._changes: dict[int, bytes] = {}
         # What a batch goes back to, if there is one.
         self._is_in_batch = self._is_broken = False
-        self._cipher = _native.Cipher(variant._VARIANT, key, TAG_BYTES)
-        self._nonce_bytes = variant.NONCE_BYTES
+        self._cipher = _native.Cipher(cipher._VARIANT, key, TAG_BYTES)
+        self._nonce_bytes = cipher.NONCE_BYTES
         self._path = os.path.realpath(path)
         self._file = os.open(self._path, flags | os.O_CLOEXEC, 0o666)
         self._journal = Journal(self._path, self._file)

@@ -143,9 +143,12 @@ class RecordOpener(variants.Secret, turns.Turns):
 
         A wrong position raises `RecordError` when the record is opened. The records before it are not verified.
         """
+        number, before = operator.index(number), operator.index(before)
+        if not (0 <= number < 1 << 64 and 0 <= before < 1 << 64):
+            raise ValueError("number and before must be from 0 to 2^64 - 1")
         opener = cls.__new__(cls)
         turns.Turns.__init__(opener)
-        opener._begin(key, prefix, context, operator.index(number), operator.index(before))
+        opener._begin(key, prefix, context, number, before)
         return opener
 
     def _begin(

@@ -241,7 +241,7 @@ class Files(unittest.TestCase):
 
     def check_calls(self, variant, key, page_size, numbers):
         model = bytearray()
-        file = RandomAccessFile.create(self.path, key, variant=variant, page_size=page_size)
+        file = RandomAccessFile.create(self.path, key, cipher=variant, page_size=page_size)
         for _ in range(400):
             kind, place = numbers.randrange(8), numbers.randrange(20_000)
             if kind < 4:
@@ -257,7 +257,7 @@ class Files(unittest.TestCase):
                 file.commit()
             elif kind == 6:
                 file.close()
-                file = RandomAccessFile(self.path, key, variant=variant)
+                file = RandomAccessFile(self.path, key, cipher=variant)
             place, length = numbers.randrange(25_000), numbers.randrange(5000)
             self.assertEqual(file.size, len(model))
             self.assertEqual(file.read_at(place, length), model[place : place + length])
@@ -266,7 +266,7 @@ class Files(unittest.TestCase):
     def test_the_default_page_fills_a_block(self):
         for variant in (Aegis128L, Aegis256):
             path = self.folder / variant.name
-            with RandomAccessFile.create(path, bytes(variant.KEY_BYTES), variant=variant) as file:
+            with RandomAccessFile.create(path, bytes(variant.KEY_BYTES), cipher=variant) as file:
                 file.write_at(0, b"x")
             self.assertEqual(path.stat().st_size, 8192)
 
@@ -331,7 +331,7 @@ class Files(unittest.TestCase):
         with RandomAccessFile.create(self.path, KEY) as file:
             file.write_at(0, bytes(9000))
         self.assertCause("header", RandomAccessFile, self.path, bytes(32))
-        self.assertCause("header", RandomAccessFile, self.path, bytes(16), variant=Aegis128L)
+        self.assertCause("header", RandomAccessFile, self.path, bytes(16), cipher=Aegis128L)
         data = bytearray(self.path.read_bytes())
         data[4096 * 2 + 50] ^= 1
         self.path.write_bytes(data)

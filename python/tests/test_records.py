@@ -48,7 +48,8 @@ class Streams(unittest.TestCase):
             for wrong in ((number + 1, before), (number, before + 1)):
                 with self.assertRaisesRegex(RecordError, "^record . is damaged"):
                     RecordOpener.at(KEY, PREFIX, CONTEXT, *wrong).open(records[number])
-        self.assertRaises(ValueError, RecordOpener.at, KEY, PREFIX, CONTEXT, 1 << 60, 1 << 60)
+        for number, before in ((1 << 60, 1 << 60), (1 << 64, 0), (0, 1 << 64), (-1, 0), (0, -1)):
+            self.assertRaises(ValueError, RecordOpener.at, KEY, PREFIX, CONTEXT, number, before)
 
     def test_a_stream_has_a_key_a_prefix_and_a_context(self) -> None:
         header, record = stream([b"a message"])

@@ -26,7 +26,7 @@ def samples(page: pathlib.Path) -> list[str]:
 
 class Samples(unittest.TestCase):
     def test_each_page(self) -> None:
-        for page, count in ((HERE.parent / "README.md", 4), (HERE.parents[1] / "README.md", 1)):
+        for page, count in ((HERE.parent / "README.md", 5), (HERE.parents[1] / "README.md", 1)):
             found = samples(page)
             self.assertGreaterEqual(len(found), count, page)
             names: dict[str, object] = {}
@@ -41,9 +41,9 @@ class Samples(unittest.TestCase):
         for name in hunkravy.__all__:
             is_between = re.fullmatch("Aegis(128X[24]|256|256X2)Mac", name)
             self.assertTrue(name == "__version__" or is_between or f"`{name}" in page, name)
-        for kind in (hunkravy.Cipher, hunkravy.Mac):
+        for kind in (hunkravy.Cipher, hunkravy.Mac, hunkravy.RandomAccessFile):
             for name in vars(kind):
-                is_named = name in ("tag_length", "digest_size") or f"`.{name}(" in page
+                is_named = name in ("tag_length", "digest_size", "size") or f"`.{name}(" in page
                 self.assertTrue(name.startswith("_") or is_named, name)
 
     def test_each_module(self) -> None:
@@ -99,7 +99,7 @@ class Example(unittest.TestCase):
 class Found(unittest.TestCase):
     def test_no_test_is_left_out(self) -> None:
         found = unittest.defaultTestLoader.discover(str(HERE))
-        self.assertEqual(found.countTestCases(), 118)
+        self.assertEqual(found.countTestCases(), 130)
 
 
 if __name__ == "__main__":
