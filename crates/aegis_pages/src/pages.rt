@@ -444,7 +444,7 @@ impl<
         }
     }
 
-    /// Forgets all changes since the last commit: the contents are those that were committed, and the next commit begins
+    /// Forgets all changes since the last commit. The contents are those that were committed, and the next commit begins
     /// there.
     pub fn discard(&mut self)
         ensures stored { IsStoredAs self.old self.new }

@@ -95,8 +95,8 @@ pub fn first_found(writes: &[u8]) -> Result<(u64, &[u8], &[u8]), Refusal>
     Ok((place, bytes, after))
 }
 
-/// Returns how many bytes of writes a journal has. A whole one whose commit began or ended with the header with which the
-/// file begins is accepted, and those are its writes.
+/// Returns how many bytes of writes a journal has. A whole one is accepted if its commit began or ended with the header
+/// with which the file begins, and those are its writes.
 pub fn length_found<S: LaneState, const N: usize>(
     file: &[u8],
     k: &[u8; N],
