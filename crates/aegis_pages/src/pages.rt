@@ -444,8 +444,8 @@ impl<
         }
     }
 
-    /// Forgets all changes since the last commit. The contents are those that were committed, and the next commit begins
-    /// there.
+    /// Forgets all changes since the last commit. The contents are those that were committed, and the next commit
+    /// begins there.
     pub fn discard(&mut self)
         ensures stored { IsStoredAs self.old self.new }
         ensures len { self.new.len ≡ self.old.stored }
