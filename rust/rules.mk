@@ -26,7 +26,7 @@ check-rust-%: $(OUT)/%/libhunkravy.a
 check-rust-tool: $(OUT)/$(lastword $(TOOL_LEVELS))/hunkravy $(LIBRARY)
 	export HUNKRAVY_TOOL="$(CURDIR)/$<"; $(call CARGO,$(FOLDER)) test --offline --test tool
 
-# ---- Files in place
+# ---- Random-access files
 
 # Whether the proved program and those over the packages and in C open what the others have left, after 200 kills and after
 # crashes that tear what was being written.

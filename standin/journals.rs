@@ -1,4 +1,4 @@
-//! The exports on the journal of a file in place.
+//! The exports on the journal of a random-access file.
 
 use crate::code::{FILE_TOO_LONG, INVALID_TAG, WRONG_JOURNAL, WRONG_RECORD_LENGTH, check, check_key, key_bytes};
 use crate::message::{ENDED, Role, State};

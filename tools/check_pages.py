@@ -3,8 +3,8 @@
 - A sample in ```rust stands in a crate, one in ```c in an example of C, and one in ```rs in an example of Rust, line breaks
   aside. Those of the module docs of `aegis` stand in another crate. Samples in ```python are run (tools/check_python.sh).
 - What a page calls is there: the commands of the tool and the targets of make in ```sh or between two `, and the functions
-  of docs/PAGES.md.
-- The speeds of README.md are those of the tables of bench/, and the lengths of docs/PAGES.md those of the headers.
+  of docs/RANDOM-ACCESS.md.
+- The speeds of README.md are those of the tables of bench/, and the lengths of docs/RANDOM-ACCESS.md those of the headers.
 - A link to a file of the repository leads to one, and its fragment to a heading.
 - A source in Rattle or Rust is named by a `mod` item of the one above it, so no module of tests is left out.
 - A line of a contract has at most 100 columns, one of a source or a page at most 120, but for imports, attributes, tables
@@ -84,9 +84,9 @@ def strange_words():
         words += re.findall(r"`(hunkravy [\w-]+|make [\w+][\w+-]*)(?: [^`]*)?`", read(page))
         yield from (f"{page}: there is no {word}" for word in words if not any(re.fullmatch(each, word) for each in known))
     pages = joined(ROOT.glob("crates/aegis_pages/src/**/*.rt"))
-    for language, sample in SAMPLE.findall(read(ROOT / "docs/PAGES.md")):
+    for language, sample in SAMPLE.findall(read(ROOT / "docs/RANDOM-ACCESS.md")):
         called = re.findall(r"(?:SealedPages::|pages\.)(\w+)\(", sample) if language == "text" else []
-        yield from (f"docs/PAGES.md: there is no function {name}" for name in called if f"pub fn {name}" not in pages)
+        yield from (f"docs/RANDOM-ACCESS.md: there is no function {name}" for name in called if f"pub fn {name}" not in pages)
 
 
 # What pages state of the tables of bench/ and of the constants of the headers.
@@ -95,7 +95,7 @@ STATED = {
         "libsodium is {slowest:.0f} to {fastest:.0f} times as fast",
         "AEGIS-256 encrypts 1 MiB in place at {speed:,} MB/s",
     ),
-    "docs/PAGES.md": (
+    "docs/RANDOM-ACCESS.md": (
         "N bytes: {AEGIS128_NONCE_BYTES} for AEGIS-128L, 128X2 and 128X4, and {AEGIS256_NONCE_BYTES} for AEGIS-256, 256X2",
         "| 4 | the page size, from {PAGE_MIN_SIZE} to {PAGE_MAX_SIZE:,} bytes |",
         "| {PAGE_ID_BYTES} | the file's ID |",

@@ -211,18 +211,24 @@ int main(int count, char **arguments)
 {
     struct file file = {.fd = -1};
     struct write writes[3];
-    uint8_t page[PAGE_BYTES + 1] = {0};
-    uint64_t number = count < 4 ? 0 : strtoull(arguments[3], NULL, 10);
-    int result = (count == 4 || (count == 5 && strlen(arguments[4]) <= SIZE)) &&
-        begin(&file, arguments[1], arguments[2]) && number < file.length / SIZE + (count == 5);
-    if (result && count == 5) {
+    uint8_t page[PAGE_BYTES] = {0};
+    uint64_t number;
+    int result = 0;
+    if (count != 4 && (count != 5 || strlen(arguments[4]) > SIZE)) {
+        puts("usage: file KEYFILE FILE NUMBER [TEXT]");
+        return count > 2 ? EXIT_FAILURE : EXIT_SUCCESS;
+    }
+    number = strtoull(arguments[3], NULL, 10);
+    if (!begin(&file, arguments[1], arguments[2]) || number >= file.length / SIZE + (count == 5)) {
+        fputs("file: check KEYFILE, FILE and NUMBER\n", stderr);
+    } else if (count == 5) {
         uint64_t end = (number + 1) * SIZE;
         memcpy(page + NONCE_BYTES, arguments[4], strlen(arguments[4]));
         result = seal_page(&file, page, number, &writes[1]) &&
             commit(&file, writes, 2, end > file.length ? end : file.length);
-    } else if (result) {
+    } else {
         result = read_page(&file, page, number) && printf("%.*s\n", (int)SIZE, (char *)page + NONCE_BYTES) > 0;
     }
     hunkravy_wipe(&file, sizeof file);
-    return result ? EXIT_SUCCESS : (fputs("usage: file KEYFILE FILE NUMBER [TEXT]\n", stderr), EXIT_FAILURE);
+    return result ? EXIT_SUCCESS : EXIT_FAILURE;
 }

@@ -2,12 +2,12 @@
  * Files that are written in place: their contents are encrypted page by page. These functions encrypt and decrypt a
  * page or a header, and make and read the journal of a commit. Your program reads and writes the file and the journal.
  *
- * A crash while you write MAY LOSE THE FILE, unless you write through a journal, as under "The journal" below. The
+ * A crash while you write MAY LOSE THE FILE, unless you write through a journal: see "The journal" below. The
  * example file.c does so, and so do `raf` of the Cargo package and the Rattle crate `aegis_pages`.
  *
  * The contents are split into pages of one size. Each page is encrypted separately, with any variant and a tag of 32
  * bytes. A page decrypts only under its number and the id of its file. An older page of the same number decrypts too.
- * `aegis_pages` and `raf` read and write the same files; docs/PAGES.md in the repository defines the format.
+ * `aegis_pages` and `raf` read and write the same files; docs/RANDOM-ACCESS.md in the repository defines the format.
  *
  * A file begins with a header block of HUNKRAVY_PAGE_HEADER_BLOCK_BYTES: the variant, the page size, the file's id, a
  * counter, and the length of the contents. The pages begin at byte HUNKRAVY_PAGE_FIRST. All pages have the full
@@ -104,7 +104,7 @@ HUNKRAVY_MUST_USE int hunkravy_page_header_open(uint32_t variant, const uint8_t 
 
 /* ---- The journal
  *
- * After a crash all writes of a commit are there, or none, if you follow these steps. docs/PAGES.md has the model of a
+ * After a crash all writes of a commit are there, or none, if you follow these steps. docs/RANDOM-ACCESS.md has the model of a
  * crash that this is proved for.
  *
  * To commit, with a journal that is empty, and a file and a journal that are synced:

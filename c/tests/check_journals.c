@@ -34,7 +34,7 @@ static void seal_header(const struct commit *made, uint8_t *block, uint64_t coun
                                     made->k, made->n) == HUNKRAVY_OK);
 }
 
-/* ---- The format, as docs/PAGES.md defines it */
+/* ---- The format, as docs/RANDOM-ACCESS.md defines it */
 
 /* Writes the first bytes of a journal. */
 static uint8_t *write_beginning(const struct commit *made, uint8_t *at)

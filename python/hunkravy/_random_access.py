@@ -491,7 +491,7 @@ class RandomAccessFile(variants.Secret):
             os.close(journal)
 
     def _journal_of_this(self, journal: int, size: int) -> bytearray:
-        """Returns the journal. One that does not begin as those of the file do is not read if it is large."""
+        """Returns the journal. Exception: a large file that begins in another way is not read."""
         beginning = read_at(journal, BEGINNING_BYTES, 0)
         if size > MOST_FOREIGN_BYTES:
             page_size, file_id, _, _ = self._header()

@@ -99,7 +99,7 @@ class Example(unittest.TestCase):
 class Found(unittest.TestCase):
     def test_no_test_is_left_out(self) -> None:
         found = unittest.defaultTestLoader.discover(str(HERE))
-        self.assertEqual(found.countTestCases(), 130)
+        self.assertEqual(found.countTestCases(), 134)
 
 
 if __name__ == "__main__":
