@@ -43,7 +43,7 @@ class Samples(unittest.TestCase):
             self.assertTrue(name == "__version__" or is_between or f"`{name}" in page, name)
         for kind in (hunkravy.Cipher, hunkravy.Mac, hunkravy.RandomAccessFile):
             for name in vars(kind):
-                is_named = name in ("tag_length", "digest_size", "size") or f"`.{name}(" in page
+                is_named = name in ("tag_length", "digest_size", "size", "closed") or f"`.{name}(" in page
                 self.assertTrue(name.startswith("_") or is_named, name)
 
     def test_each_module(self) -> None:
