@@ -57,6 +57,15 @@ REJECTED = {
     "became a device or a pipe": ("seal -k key /dev/null /dev/fd/3 3>&-", "seal -k key /dev/null /dev/stdout >&-"),
     "/dev/stdout": ("open --force -k key --from 5 sealed /dev/stdout >&-",),
 }
+# The key comes through a pipe, or OUT is a copy of its file: only the contents of OUT show that it is the key.
+PIPED_KEYS = (
+    "cat key | $TOOL seal -k - --force small key",
+    "cat key | $TOOL open -k - --force sealed link",
+    "cat key | $TOOL seal -k - small >> key",
+    "cat other | $TOOL rekey --force -k key -n - sealed other",
+    "$TOOL seal -k key --force small copy",
+)
+
 # Standard error leads to what is read, where no message may go. Most of these would have one.
 UNSAID = (
     "check -k key sealed &>> key",
@@ -87,12 +96,17 @@ class Outputs(Scene):
         os.mkdir("folder")
         with socket.socket(socket.AF_UNIX) as one:
             one.bind("socket")
+        shutil.copy("key", "copy")
         before = snapshot()
         for reason, commands in REJECTED.items():
             for command in commands:
                 with self.subTest(command):
                     self.shell(3, f"$TOOL {command}", reason)
                     self.assertTrue(snapshot() == before)
+        for command in PIPED_KEYS:
+            with self.subTest(command):
+                self.shell(3, command, "is the key file")
+                self.assertTrue(snapshot() == before)
         for command in UNSAID:
             with self.subTest(command):
                 self.shell(3, f"$TOOL {command}", lacks=".")

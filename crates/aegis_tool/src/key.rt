@@ -67,6 +67,19 @@ impl<'a> KeyFile<'a> {
         }
         Identity::of_standard_input(rt).map_err(|error| Failure::KeyFile(self.name, error))
     }
+
+    /// Returns whether the file of this name is a key file with the key: its contents show that, also if the key comes
+    /// through a pipe from another program.
+    pub fn is_in(&self, rt: &HostRuntime, name: &str) -> bool {
+        match fs::metadata(rt, name) {
+            Ok(found) if found.is_file() => {}
+            _ => return false,
+        }
+        match File::open(rt, name) {
+            Ok(mut file) => matches!(read_key(&mut file), Ok(Some(key)) if key == self.key),
+            Err(_) => false,
+        }
+    }
 }
 
 /// The name of a key file that is standard input.
