@@ -104,8 +104,8 @@ HUNKRAVY_MUST_USE int hunkravy_page_header_open(uint32_t variant, const uint8_t 
 
 /* ---- The journal
  *
- * After a crash all writes of a commit are there, or none, if you follow these steps. docs/RANDOM-ACCESS.md has the model of a
- * crash that this is proved for.
+ * After a crash all writes of a commit are there, or none, if you follow these steps. docs/RANDOM-ACCESS.md has the
+ * model of a crash that this is proved for.
  *
  * To commit, with a journal that is empty, and a file and a journal that are synced:
  *
@@ -122,11 +122,10 @@ HUNKRAVY_MUST_USE int hunkravy_page_header_open(uint32_t variant, const uint8_t 
  *
  * 1. Read the journal, and the first HUNKRAVY_PAGE_HEADER_BLOCK_BYTES of the file.
  * 2. hunkravy_journal_check. After an error leave both as they are.
- * 3. Sync the file. If there are writes and none of them was begun, write the journal after its first
- *    HUNKRAVY_JOURNAL_BEGINNING_BYTES again: after a sync that failed it may not be on the disk. None was begun if the
- *    file has the old header block, and each page that it had decrypts and is none of those writes. Otherwise do not
- *    write it: a crash might tear it.
- * 4. Sync the journal. Make the writes that hunkravy_journal_next finds, in their order, and sync the file.
+ * 3. Sync the file. If there are writes, write the journal to another file, sync that, rename it over the journal, and
+ *    sync the folder: after a sync that failed, Linux returns bytes that the disk does not have. Do not write the journal
+ *    in its place: a crash might tear it.
+ * 4. Make the writes that hunkravy_journal_next finds, in their order, and sync the file.
  * 5. Empty the journal, and sync it. Then read the header of the file.
  */
 

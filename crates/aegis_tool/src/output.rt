@@ -104,8 +104,8 @@ fn is_own_pipe(rt: &HostRuntime, output: Place<'_>) -> bool {
     }
 }
 
-/// Returns an error if the output is the input, one of the key files, a copy of one, or the pipe of standard input, under
-/// any of their names.
+/// Returns an error if the output is the input, one of the key files, a copy of one, or the pipe of standard input,
+/// under any of their names.
 pub fn refuse_inputs<'a>(
     rt: &HostRuntime,
     paths: Transfer<'a>,
