@@ -123,8 +123,8 @@ HUNKRAVY_MUST_USE int hunkravy_page_header_open(uint32_t variant, const uint8_t 
  * 1. Read the journal, and the first HUNKRAVY_PAGE_HEADER_BLOCK_BYTES of the file.
  * 2. hunkravy_journal_check. After an error leave both as they are.
  * 3. Sync the file. If there are writes, write the journal to another file, sync that, rename it over the journal, and
- *    sync the folder: after a sync that failed, Linux returns bytes that the disk does not have. Do not write the journal
- *    in its place: a crash might tear it.
+ *    sync the folder: after a sync that failed, Linux returns bytes that the disk does not have. Do not write the
+ *    journal in its place: a crash might tear it.
  * 4. Make the writes that hunkravy_journal_next finds, in their order, and sync the file.
  * 5. Empty the journal, and sync it. Then read the header of the file.
  */
