@@ -20,3 +20,7 @@ mod slices;
 fn panic(_: &core::panic::PanicInfo) -> ! {
     loop {}
 }
+
+/// What the precompiled `core` names for unwinding. Nothing here unwinds.
+#[unsafe(no_mangle)]
+extern "C" fn rust_eh_personality() {}
