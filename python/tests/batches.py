@@ -6,6 +6,7 @@ It prints the number that all rows of the file hold. With `write` it writes the 
 import itertools
 import pathlib
 import sys
+from typing import Any
 
 from hunkravy import RandomAccessFile
 
@@ -13,7 +14,7 @@ KEY = bytes([7]) * 32
 ROWS, ROW_DISTANCE = 5, 10_000
 
 
-def opened(path):
+def opened(path: Any) -> Any:
     """Opens the file, or makes a new one, whose rows hold 0."""
     if pathlib.Path(path).exists():
         return RandomAccessFile(path, KEY)
@@ -23,7 +24,7 @@ def opened(path):
     return file
 
 
-def number_of_rows(file):
+def number_of_rows(file: Any) -> Any:
     """Returns the number that all rows hold."""
     numbers = {int.from_bytes(file.read_at(row * ROW_DISTANCE, 8), "little") for row in range(ROWS)}
     if len(numbers) != 1:
@@ -31,7 +32,7 @@ def number_of_rows(file):
     return numbers.pop()
 
 
-def main(path, *write):
+def main(path: Any, *write: Any) -> Any:
     with opened(path) as file:
         number = number_of_rows(file)
         print(f"all rows hold {number}", flush=True)
