@@ -5,13 +5,13 @@ from __future__ import annotations
 import contextlib
 import errno
 import fcntl
-import io
 import operator
 import os
 import stat
 import threading
+from collections.abc import Iterator
 from types import TracebackType
-from typing import TYPE_CHECKING, Any, Iterator, NoReturn, Optional, Self, Union
+from typing import TYPE_CHECKING, Optional, Self, Union
 
 from . import _native, _variants as variants
 from ._files import RawFile, bytes_of
