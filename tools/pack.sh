@@ -49,7 +49,7 @@ archive() {
     rm -rf "$folder"/python/*/__pycache__ "$folder"/python/hunkravy/_version.py "$folder"/python/hunkravy/_native.abi3.so
     for part in "$folder" "$folder/rust" "$folder/python"; do cp LICENSE "$part"; done
     proved > "$folder/PROVED.md"
-    python3 tools/ship_pages.py "$folder" SECURITY.md CHANGELOG.md docs/FILES.md docs/RANDOM-ACCESS.md docs/DIFFERENCES.md \
+    python3 tools/ship_pages.py "$folder" SECURITY.md CHANGELOG.md docs/SEALED-FILES.md docs/RANDOM-ACCESS.md docs/DIFFERENCES.md \
         rust/README.md python/README.md
     cp dist/archive.md.in "$folder/README.md"
     cp dist/VERIFY.md "$folder"

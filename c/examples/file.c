@@ -65,6 +65,12 @@ static int seal_header(const struct file *file, uint8_t *block, uint64_t counter
 }
 
 /*
+ * Syncs a file, and has the system forget what it keeps of it in memory, so that reads return what the disk has. After a
+ * sync that failed, Linux keeps other bytes, and ext4 may not keep what is written over them.
+ */
+static int forgotten(int fd) { return fsync(fd) == 0 && posix_fadvise(fd, 0, 0, POSIX_FADV_DONTNEED) == 0; }
+
+/*
  * Replaces the journal with a copy that is synced. After a sync that failed, Linux returns bytes that the disk does not
  * have. The old journal stays until the new one is whole: the disk may need it.
  */
@@ -98,8 +104,12 @@ static int make_again(const struct file *file, const uint8_t *write, size_t left
 static int recover(struct file *file, uint8_t *journal, size_t length)
 {
     uint8_t block[BLOCK_BYTES];
-    ssize_t found = pread(file->fd, block, sizeof block, 0);
+    ssize_t found;
     size_t left;
+    if (length > 0 && (!forgotten(file->fd) || !forgotten(file->journal))) {
+        return 0;
+    }
+    found = pread(file->fd, block, sizeof block, 0);
     return found >= 0 && get(file->journal, journal, length, 0) &&
         hunkravy_journal_check(VARIANT, block, (size_t)found, file->key, KEY_BYTES, journal, length, &left) ==
             HUNKRAVY_OK &&

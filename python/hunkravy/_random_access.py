@@ -85,6 +85,16 @@ def sync_folder(path: str) -> None:
         os.close(folder)
 
 
+def forget(descriptor: int) -> None:
+    """Syncs a file, and has the system forget what it keeps of it in memory.
+
+    So reads return what the disk has. After a sync that failed, Linux keeps bytes that the disk does not have, and ext4 may
+    not keep what is written over them.
+    """
+    os.fsync(descriptor)
+    os.posix_fadvise(descriptor, 0, 0, os.POSIX_FADV_DONTNEED)
+
+
 class Journal:
     """The journal of a file: the file beside it that has the writes of a commit until they are made."""
 
@@ -474,9 +484,10 @@ class RandomAccessFile(variants.Secret):
             return
         journal = os.open(self._journal.path, os.O_RDWR | os.O_NOFOLLOW | os.O_CLOEXEC)
         try:
+            forget(self._file)
+            forget(journal)
             content = self._journal_of_this(journal, size)
             writes = self._journaled(content)
-            os.fsync(self._file)
             if writes:
                 self._journal.write_again(content)
                 for place, start, end in writes:

@@ -1,4 +1,4 @@
-"""The text of each message, as FILES.md and the packages' users know it, and that each error of the program has a row here."""
+"""The text of each message, as SEALED-FILES.md and the packages' users know it, and that each error of the program has a row here."""
 
 import os
 import re

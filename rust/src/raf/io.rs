@@ -1,6 +1,6 @@
 //! Storages of a file and of its journal.
 
-use super::system::{Process, lock, take_room, unlock};
+use super::system::{Process, forget, lock, take_room, unlock};
 use super::{Error, Result};
 use crate::memory::{check_memory, zeros};
 use alloc::vec::Vec;
@@ -44,6 +44,14 @@ pub trait RafIo {
     ///
     /// The default does nothing. It is for storages that do not survive a crash, such as memory.
     fn sync(&mut self) -> io::Result<()> {
+        Ok(())
+    }
+
+    /// Makes reads return what would survive a loss of power now, also after a [`sync`](RafIo::sync) that failed. It is called when
+    /// a file with a journal is opened.
+    ///
+    /// The default does nothing. It is for storages without a memory in front of them.
+    fn forget(&mut self) -> io::Result<()> {
         Ok(())
     }
 
@@ -197,6 +205,10 @@ impl RafIo for FileIo {
 
     fn sync(&mut self) -> io::Result<()> {
         self.file.sync_all()
+    }
+
+    fn forget(&mut self) -> io::Result<()> {
+        forget(&self.file)
     }
 
     fn lock(&mut self) -> Result<()> {
@@ -549,6 +561,13 @@ impl RafIo for JournalFile {
         }
         match self.open(true)? {
             Some(file) => file.set_len(size),
+            None => Ok(()),
+        }
+    }
+
+    fn forget(&mut self) -> io::Result<()> {
+        match self.open(false)? {
+            Some(file) => forget(file),
             None => Ok(()),
         }
     }

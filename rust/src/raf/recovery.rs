@@ -125,6 +125,10 @@ pub fn recover<A: Algorithm>(
     journal: &mut impl RafIo,
     key: &A::Key,
 ) -> Result<PageHeader> {
+    if journal.get_size()? > 0 {
+        io.forget()?;
+        journal.forget()?;
+    }
     let start = FileStart::read::<A>(io, key)?;
     let content = start.read_journal::<A>(journal, key)?;
     let file = start.block.as_ref().map_or(&[][..], |block| block);

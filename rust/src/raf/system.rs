@@ -12,6 +12,8 @@ const LOCK_EX: c_int = 2;
 const LOCK_NB: c_int = 4;
 const LOCK_UN: c_int = 8;
 
+const POSIX_FADV_DONTNEED: c_int = 4;
+
 /// The file system cannot do this, in Linux.
 const EOPNOTSUPP: i32 = 95;
 
@@ -19,6 +21,7 @@ const EOPNOTSUPP: i32 = 95;
 unsafe extern "C" {
     safe fn flock(descriptor: c_int, operation: c_int) -> c_int;
     safe fn fallocate(descriptor: c_int, mode: c_int, offset: i64, length: i64) -> c_int;
+    safe fn posix_fadvise(descriptor: c_int, offset: i64, length: i64, advice: c_int) -> c_int;
     safe fn pthread_atfork(
         before: Option<extern "C" fn()>,
         in_parent: Option<extern "C" fn()>,
@@ -61,6 +64,15 @@ pub fn take_room(file: &File, from: u64, end: u64) -> io::Result<bool> {
             Err(error) => return Err(error),
         }
     }
+}
+
+/// Syncs a file, and has the system forget what it keeps of it in memory. So reads return what the disk has, also if an earlier
+/// sync has failed: Linux keeps bytes then that the disk does not have, and ext4 may not keep what is written over them.
+pub fn forget(file: &File) -> io::Result<()> {
+    file.sync_all()?;
+    // It is advice: a file system that takes none has another memory, or none.
+    let _ = posix_fadvise(file.as_raw_fd(), 0, 0, POSIX_FADV_DONTNEED);
+    Ok(())
 }
 
 /// How many forks are between this process and the one that first opened a file, and whether they are counted.

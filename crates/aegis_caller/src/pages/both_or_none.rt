@@ -1,7 +1,7 @@
 //! Two places of a storage that are changed together.
 
-ghost use Rattle.std.specs.Prelude.{◌+◌, ◌≤◌, ◌∷◌, [], IfSome, List, OnOk, length, ℕ};
-ghost use Rattle.aegis_storage.specs.Disk.{Writes};
+ghost use Rattle.std.specs.Prelude.{◌≡◌, ◌+◌, ◌≤◌, ◌∷◌, [], IfOk, IfSome, List, OnOk, length, ℕ};
+ghost use Rattle.aegis_storage.specs.Disk.{Writes, writes_of};
 ghost use Rattle.aegis_storage.specs.Journal.{IsAtRest, IsNoForgery, RecoversUnlessForged, RestsAtEither};
 ghost use Rattle.aegis_storage.specs.declared.store.TheConstants.{MAX_STORAGE_BYTES};
 
@@ -10,6 +10,63 @@ use aegis_storage::laws::recovers_at_rest;
 use aegis_storage::{PendingWrite, Storage, commit, recover};
 use std::alloc::Allocator;
 use std::io;
+
+/// Makes writes. Whatever it returns, a crash leaves a storage and a journal from which recovery makes all of them or none,
+/// unless it leaves a forged journal.
+pub fn write_all<S: Storage, J: Storage, A: Allocator + Copy>(
+    alloc: A,
+    storage: &mut S,
+    journal: &mut J,
+    key: &Key,
+    beginning: &[u8; 512],
+    nonce: &Nonce,
+    writes: &[PendingWrite<A>],
+) -> io::Result<()>
+    ensures { (xs : List ℕ) → IsAtRest (S.disk storage.old) (J.disk journal.old) xs
+        → RecoversUnlessForged key.now [] xs (writes_of writes.now)
+        (S.disk storage.new) (J.disk journal.new) }
+{
+    commit(alloc, storage, journal, key, beginning, nonce, &[], writes)
+}
+
+/// Two writes, in this order.
+pub fn two_writes<A: Allocator + Copy>(
+    alloc: A,
+    places: (u64, u64),
+    first: &[u8],
+    second: &[u8],
+) -> io::Result<Vec<PendingWrite<A>, A>>
+    requires first { places.0 + length first.now ≤ MAX_STORAGE_BYTES }
+    requires second { places.1 + length second.now ≤ MAX_STORAGE_BYTES }
+    ensures { IfOk result (λ writes. writes_of writes.items
+        ≡ (places.0, first.now) ∷ (places.1, second.now) ∷ []) }
+{
+    let mut writes = Vec::new(alloc);
+    writes.push(PendingWrite::new(alloc, places.0, first)?)?;
+    writes.push(PendingWrite::new(alloc, places.1, second)?)?;
+    Ok(writes)
+}
+
+/// Makes these two writes.
+pub fn write_these<S: Storage, J: Storage, A: Allocator + Copy>(
+    alloc: A,
+    storage: &mut S,
+    journal: &mut J,
+    key: &Key,
+    beginning: &[u8; 512],
+    nonce: &Nonce,
+    places: (u64, u64),
+    first: &[u8],
+    second: &[u8],
+    writes: &[PendingWrite<A>],
+) -> io::Result<()>
+    requires { writes_of writes.now ≡ (places.0, first.now) ∷ (places.1, second.now) ∷ [] }
+    ensures { (xs : List ℕ) → IsAtRest (S.disk storage.old) (J.disk journal.old) xs
+        → RecoversUnlessForged key.now [] xs ((places.0, first.now) ∷ (places.1, second.now) ∷ [])
+        (S.disk storage.new) (J.disk journal.new) }
+{
+    write_all(alloc, storage, journal, key, beginning, nonce, writes)
+}
 
 /// Writes `first` at one place and `second` at another. Whatever it returns, a crash leaves a storage and a journal
 /// from which recovery makes both writes or none, unless it leaves a forged journal.
@@ -31,10 +88,10 @@ pub fn write_both<S: Storage, J: Storage, A: Allocator + Copy>(
         (S.disk storage.new) (J.disk journal.new) }
 {
     recovers_at_rest();
-    let mut writes = Vec::new(alloc);
-    writes.push(PendingWrite::new(alloc, places.0, first)?)?;
-    writes.push(PendingWrite::new(alloc, places.1, second)?)?;
-    commit(alloc, storage, journal, key, beginning, nonce, &[], &writes)
+    let writes = two_writes(alloc, places, first, second)?;
+    write_these(
+        alloc, storage, journal, key, beginning, nonce, places, first, second, &writes,
+    )
 }
 
 /// Opens a storage after a crash that has not left a forged journal: with `Ok` it has both writes or none, and is ready
