@@ -11,8 +11,8 @@ use aegis_storage::{PendingWrite, Storage, commit, recover};
 use std::alloc::Allocator;
 use std::io;
 
-/// Makes writes. Whatever it returns, a crash leaves a storage and a journal from which recovery makes all of them or none,
-/// unless it leaves a forged journal.
+/// Makes writes. Whatever it returns, a crash leaves a storage and a journal from which recovery makes all of them or
+/// none, unless it leaves a forged journal.
 pub fn write_all<S: Storage, J: Storage, A: Allocator + Copy>(
     alloc: A,
     storage: &mut S,
