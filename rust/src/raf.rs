@@ -116,8 +116,8 @@ pub const MAX_SIZE: u64 = 1 << 60;
 /// After an error in the middle of a commit the file is broken: each function that reads, changes or commits it returns
 /// [`Error::Broken`]. If it has a journal, opening it again gives the contents before the commit or after it.
 ///
-/// A file belongs to the process that opened it. After a fork these functions return [`Error::Locked`] in any other process, and
-/// dropping does nothing there.
+/// A file belongs to the process that opened it. After `fork` these functions return [`Error::Locked`] in any other process, and
+/// dropping does nothing there. A `clone` of the system without the C library is not always noticed: do not use the file in it.
 ///
 /// If memory runs out, the error is [`Error::Io`] of kind [`OutOfMemory`](std::io::ErrorKind::OutOfMemory), and nothing has
 /// changed. Exceptions: the standard library ends the program if it finds none for the text of an error, or for a path while a
