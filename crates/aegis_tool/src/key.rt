@@ -69,15 +69,15 @@ impl<'a> KeyFile<'a> {
     }
 
     /// Returns whether the file of this name is a key file with the key: its contents show that, also if the key comes
-    /// through a pipe from another program.
-    pub fn is_in(&self, rt: &HostRuntime, name: &str) -> bool {
-        match fs::metadata(rt, name) {
-            Ok(found) if found.is_file() => {}
-            _ => return false,
+    /// through a pipe from another program. A file that the user may not read is taken for none.
+    pub fn is_in(&self, rt: &HostRuntime, name: &str) -> io::Result<bool> {
+        if !fs::metadata(rt, name)?.is_file() {
+            return Ok(false);
         }
         match File::open(rt, name) {
-            Ok(mut file) => matches!(read_key(&mut file), Ok(Some(key)) if key == self.key),
-            Err(_) => false,
+            Ok(mut file) => Ok(read_key(&mut file)? == Some(self.key)),
+            Err(error) if error.kind() == io::ErrorKind::PermissionDenied => Ok(false),
+            Err(error) => Err(error),
         }
     }
 }

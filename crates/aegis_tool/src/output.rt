@@ -112,15 +112,14 @@ pub fn refuse_inputs<'a>(
     keys: &[&KeyFile<'a>],
 ) -> Result<(), Failure<'a>> {
     let (input, output) = (paths.input, paths.output);
-    let written = Identity::at(rt, name_of(output)).map_err(|error| Failure::Output(
-        output.output_name(),
-        error,
-    ))?;
+    let name = name_of(output);
+    let unwritable = |error| Failure::Output(output.output_name(), error);
+    let written = Identity::at(rt, name).map_err(unwritable)?;
     if written.is_none() {
         return Ok(());
     }
     for key in keys {
-        if key.identity(rt)? == written || key.is_in(rt, name_of(output)) {
+        if key.identity(rt)? == written || key.is_in(rt, name).map_err(unwritable)? {
             return Err(Failure::OverKey(output.output_name(), key.name));
         }
     }
