@@ -8,7 +8,9 @@
  * is the program crates/example_batches over the example: it prints the number that all rows of FILE hold, and with
  * `write` it writes the numbers after that, until it is stopped.
  */
+#ifndef _DEFAULT_SOURCE
 #define _DEFAULT_SOURCE
+#endif
 #define _POSIX_C_SOURCE 200809L
 #include <errno.h>
 #include <fcntl.h>
