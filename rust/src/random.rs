@@ -2,9 +2,18 @@
 
 use std::fs::File;
 use std::io::{self, Read};
+use std::sync::atomic::{AtomicBool, Ordering};
 
-/// Opens their source.
+/// Whether a byte was read from `/dev/random` in this process.
+static WAS_SEEDED: AtomicBool = AtomicBool::new(false);
+
+/// Opens their source, once the system has seeded it. Until then `/dev/urandom` gives bytes that can be guessed, and a
+/// byte of `/dev/random` is waited for.
 pub(crate) fn open() -> io::Result<File> {
+    if !WAS_SEEDED.load(Ordering::Relaxed) {
+        fill(&mut File::open("/dev/random")?, &mut [0])?;
+        WAS_SEEDED.store(true, Ordering::Relaxed);
+    }
     File::open("/dev/urandom")
 }
 

@@ -19,7 +19,7 @@ pub(super) fn checked_nonce<A: Algorithm>(nonce: A::Nonce) -> Result<A::Nonce> {
     Ok(nonce)
 }
 
-/// The system's source of random bytes, `/dev/urandom`.
+/// The system's source of random bytes: `/dev/urandom`, once it was seeded.
 #[cfg(feature = "raf")]
 #[derive(Debug, Default)]
 pub struct OsRng(Option<std::fs::File>);
