@@ -1,5 +1,5 @@
 # The commands that a person types. Each folder's own are in its rules.mk.
-.PHONY: run program quick quick-over-the-stand-in test check-gate check-pages check-edits
+.PHONY: run program quick quick-over-the-stand-in test check-gate check-pages check-mutants
 .SECONDARY:
 
 SHELL = /bin/bash
@@ -90,8 +90,8 @@ quick-over-the-stand-in: | $(OUT)
 STANDIN = $(OUT)/x86-64-v2/aegis_c.a $(OUT)/x86-64-v3/aegis_c.a
 
 # Tries the mutants that the gate leaves out: the prover has to refuse each, and to prove each control.
-check-edits:
-	python3 tools/edits.py try
+check-mutants:
+	python3 tools/mutants.py try
 
 # Each sample and each quoted contract of the pages stands in a proved crate, no line is too long, each definition that a public
 # contract reaches is listed, each mutant can be applied, and no link leads nowhere.
@@ -99,7 +99,7 @@ check-pages:
 	python3 tools/check_pages.py
 	python3 tools/check_habits.py
 	python3 tools/check_definitions.py
-	python3 tools/edits.py check
+	python3 tools/mutants.py check
 
 $(OUT):
 	mkdir -p $@

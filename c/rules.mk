@@ -20,7 +20,7 @@ LIBRARY = $(OUT)/$(FOLDER)/libhunkravy.a
 
 STORED_LINES = crates/test_agreement/data
 OWN_HEADERS = hunkravy.h hunkravy_records.h hunkravy_pages.h
-HEADERS = $(OWN_HEADERS) sodium_compat.h
+HEADERS = $(OWN_HEADERS) hunkravy_sodium.h
 C_EXAMPLES = $(basename $(notdir $(sort $(wildcard c/examples/*.c))))
 
 # The names that the library exports: the calls that its headers declare.
@@ -93,7 +93,7 @@ check-header:
 		done; \
 	done; done
 	uses() { \
-		printf '#include "sodium_compat.h"\nvoid f(void);\nvoid f(void) { %s; }\n' "$$1" | \
+		printf '#include "hunkravy_sodium.h"\nvoid f(void);\nvoid f(void) { %s; }\n' "$$1" | \
 			$$compiler $(C_FLAGS) -c -o /dev/null -x c -; \
 	} && for compiler in $(CC) $(CLANG); do \
 		for call in 'hunkravy_stream(0, 0, 0, 0, 0, 0, 0)' 'sodium_init()' \
@@ -102,7 +102,7 @@ check-header:
 		done; \
 	done
 	for name in sodium_H crypto_aead_aegis128l_H crypto_aead_aegis256_H; do \
-		! echo '#include "sodium_compat.h"' | $(CC) -D$$name $(C_FLAGS) -fsyntax-only -x c - 2> /dev/null || exit 1; \
+		! echo '#include "hunkravy_sodium.h"' | $(CC) -D$$name $(C_FLAGS) -fsyntax-only -x c - 2> /dev/null || exit 1; \
 	done
 	! grep -n '^int hunkravy_' $(OWN_HEADERS:%=c/include/%) | grep -v 'hunkravy_level(void)'
 	if [ -n "$(CLANG)" ]; then \
@@ -212,7 +212,7 @@ check-sodium: $(OUT)/both/libhunkravy.a
 			$$(pkg-config --cflags --libs libsodium) -o $(OUT)/check-sodium && \
 		$(OUT)/check-sodium $(STORED_LINES); \
 	else \
-		echo 'left out: sodium_compat.h beside libsodium 1.0.19 or newer, which is not installed'; \
+		echo 'left out: hunkravy_sodium.h beside libsodium 1.0.19 or newer, which is not installed'; \
 	fi
 
 # ---- Installing

@@ -317,7 +317,7 @@ HUNKRAVY_MUST_USE int hunkravy_stream_xor(uint32_t variant, uint8_t *c, const ui
 void hunkravy_wipe(void *bytes, size_t length);
 
 /* The version of this header. hunkravy_version returns the version of the library that runs. */
-#define HUNKRAVY_VERSION "0.2.0"
+#define HUNKRAVY_VERSION "0.1.0"
 #define HUNKRAVY_VERSION_MAJOR 0
 #define HUNKRAVY_VERSION_MINOR 2
 #define HUNKRAVY_VERSION_PATCH 0

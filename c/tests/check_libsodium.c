@@ -1,5 +1,5 @@
 /*
- * libsodium's calls of sodium_compat.h, against the stored lines whose tags have 32 bytes. With
+ * libsodium's calls of hunkravy_sodium.h, against the stored lines whose tags have 32 bytes. With
  * WITH_LIBSODIUM it is a test of libsodium itself: the same program with the other include line has
  * to find the same. Its parameter is the folder of the stored lines. It ends with status 0 only if
  * every result is right.
@@ -11,8 +11,8 @@
 #include <sodium.h>
 #define LIBRARY "libsodium itself"
 #else
-#include "sodium_compat.h"
-#define LIBRARY "sodium_compat.h"
+#include "hunkravy_sodium.h"
+#define LIBRARY "hunkravy_sodium.h"
 #endif
 
 #include "check.h"

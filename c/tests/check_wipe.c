@@ -12,7 +12,7 @@
 #include <ucontext.h>
 
 #include "check.h"
-#include "sodium_compat.h"
+#include "hunkravy_sodium.h"
 
 static uint8_t stack[1 << 18];
 static ucontext_t caller, callee;

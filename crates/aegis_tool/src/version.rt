@@ -4,7 +4,7 @@ use std::alloc::AllocError;
 use std::env;
 
 /// The version of the program, which is that of the C header too.
-const VERSION: &str = "0.2.0";
+const VERSION: &str = "0.1.0";
 
 // The toolchain that the gate passed with last, as `rt version` prints it.
 const KIT: &str = "rattle-kit-13f logic dac8208d650f15bf";

@@ -22,11 +22,11 @@
  *   this header or sodium.h; different files of one program may differ.
  * - Random bytes come from getrandom. There is no function to replace their source.
  */
-#ifndef SODIUM_COMPAT_H
-#define SODIUM_COMPAT_H
+#ifndef HUNKRAVY_SODIUM_H
+#define HUNKRAVY_SODIUM_H
 
 #if defined(sodium_H) || defined(crypto_aead_aegis128l_H) || defined(crypto_aead_aegis256_H)
-#error "include sodium_compat.h in place of sodium.h, not beside it"
+#error "include hunkravy_sodium.h in place of sodium.h, not beside it"
 #endif
 
 #include "hunkravy.h"

@@ -2,9 +2,9 @@
  * A program for libsodium, with one include line changed: a message is encrypted with its tag, and
  * decrypted.
  *
- * cc libsodium.c $(pkg-config --cflags --libs hunkravy)
+ * cc from_libsodium.c $(pkg-config --cflags --libs hunkravy)
  */
-#include "sodium_compat.h" /* was: #include <sodium.h> */
+#include "hunkravy_sodium.h" /* was: #include <sodium.h> */
 
 #include <stdio.h>
 #include <stdlib.h>

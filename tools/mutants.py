@@ -1,11 +1,11 @@
-"""The mutants of the crates: those of the gate, in must-fail/, the others, which wrong_bodies.txt lists, and the controls.
+"""The mutants of the crates: those of the gate, in must-fail/, the others, which mutants.txt lists, and the controls.
 
 A control has the shape of a mutant and the right meaning, so the prover has to prove it: controls.txt lists them, each with
 the name of the mutant that it stands beside.
 
-edits.py check: each can be applied, since every text that it replaces stands in its file once, has a name of its own in its
+mutants.py check: each can be applied, since every text that it replaces stands in its file once, has a name of its own in its
 crate, and names the clauses that refuse it. The function that it changes, or one that calls that, has a clause of each name.
-edits.py try [CRATE..]: the prover refuses each mutant that is listed, and proves each control.
+mutants.py try [CRATE..]: the prover refuses each mutant that is listed, and proves each control.
 """
 
 import functools
@@ -204,7 +204,7 @@ def check():
     gate = sorted(CRATES.glob("*/must-fail/*.edit"))
     mutants = [edit_of(path.parent.parent, path.stem, path.read_text("utf-8").splitlines()) for path in gate]
     names = set()
-    for edit in [*mutants, *listed("wrong_bodies.txt")]:
+    for edit in [*mutants, *listed("mutants.txt")]:
         twice = "its name stands twice" if (edit.crate, edit.name) in names else None
         names.add((edit.crate, edit.name))
         if why := twice or fault(edit) or clause_fault(edit):
@@ -250,7 +250,7 @@ def try_listed(crates):
         shutil.copytree(CRATES, copy / CRATES, ignore=shutil.ignore_patterns("out", "must-fail"))
         shutil.copy("crates.txt", copy)
         shutil.copy("HANDLES", copy)
-        status, _ = tried(copy, "wrong_bodies.txt", crates)
+        status, _ = tried(copy, "mutants.txt", crates)
         return bool(status or tried(copy, "controls.txt", crates)[1])
 
 
