@@ -806,7 +806,7 @@ class Tool(unittest.TestCase):
                 self.assertEqual((opened.returncode, opened.stdout), (cause != "none", contents[:verified]))
                 if cause != "none":
                     says = self.says.get(cause, f"is damaged.* record {cause[-1]} ")
-                    self.assert_rejected("AGR1" if name == "header-version-1" else says, data)
+                    self.assert_rejected(says, data)
                     self.assert_parts(contents, verified)
 
     def assert_rejected(self, says: str, data: bytes) -> None:

@@ -10,7 +10,6 @@ MISSING = r"No such file or directory \(os error 2\)"
 MESSAGES = (
     # Sealed files.
     ("$TOOL check -k key small", 1, r"hunkravy: small is not a sealed file: its bytes 24 to 27 are not AGR2"),
-    ("$TOOL check -k key first", 1, r"hunkravy: first is a sealed file of version 1 \(AGR1\), which this program does not open"),
     ("$TOOL check -k other sealed", 1, r"hunkravy: sealed: the key is probably wrong, or the file is damaged at its start"),
     ("$TOOL check -k key flipped", 1,
      r"hunkravy: flipped is damaged: record 1 does not open \(bytes 65536 to 131071 of the contents, if the length of the record is "
@@ -88,7 +87,6 @@ ELSEWHERE = ("is a socket of messages, which may lose a part of one: read from a
 class Messages(Scene):
     def test_each_message(self):
         sealed = read("sealed")
-        write("first", sealed[:24] + b"AGR1" + sealed[28:])
         write("flipped", sealed[:70_000] + bytes([sealed[70_000] ^ 1]) + sealed[70_001:])
         write("flagged", sealed[:65_601] + b"\2" + sealed[65_602:])
         write("cut", sealed[:-66])

@@ -14,8 +14,6 @@ use thiserror::Error;
 pub enum Failure<'a> {
     #[error("{0} is not a sealed file: its bytes 24 to 27 are not AGR2")]
     NotSealed(Name<'a>),
-    #[error("{0} is a sealed file of version 1 (AGR1), which this program does not open")]
-    FirstVersion(Name<'a>),
     #[error("{0}: the key is probably wrong, or the file is damaged at its start")]
     Key(Name<'a>),
     #[error("{0} is damaged: record {2} does not open{3}{1}")]
@@ -115,7 +113,6 @@ impl<'a> Failure<'a> {
     pub fn status(&self) -> u8 {
         match self {
             Failure::NotSealed(_)
-            | Failure::FirstVersion(_)
             | Failure::Key(..)
             | Failure::Damaged(..)
             | Failure::NoRecord(..)
@@ -153,7 +150,6 @@ impl<'a> Failure<'a> {
     fn of_stream(fault: RecordError, input: Name<'a>, seen: Seen) -> Self {
         let verified = seen.verified;
         match fault {
-            RecordError::Header if seen.is_first_version => Failure::FirstVersion(input),
             RecordError::Header => Failure::NotSealed(input),
             RecordError::Damaged(0) => Failure::Key(input),
             RecordError::Damaged(number) => {
@@ -170,7 +166,6 @@ impl<'a> Failure<'a> {
     pub fn of_part(error: PartError, input: Place<'a>, output: Place<'a>, seen: Seen) -> Self {
         let name = input.input_name();
         match error {
-            PartError::FirstVersion => Failure::FirstVersion(name),
             PartError::PastBytes(bytes) => Failure::PastBytes(name, bytes),
             PartError::File(FileError::Stream(fault)) => match fault {
                 RecordError::Damaged(number) if 0 < number && number == seen.start.number => {
@@ -185,21 +180,14 @@ impl<'a> Failure<'a> {
     }
 
     /// Returns the failure of finding the records of `input` by their lengths.
-    pub fn of_outline(error: PartError, input: Place<'a>) -> Self {
-        match error {
-            PartError::File(error) => {
-                Failure::of_files(error, input, Place::Standard, Seen::NOTHING)
-            }
-            _ => Failure::of_part(error, input, Place::Standard, Seen::NOTHING),
-        }
+    pub fn of_outline(error: FileError, input: Place<'a>) -> Self {
+        Failure::of_files(error, input, Place::Standard, Seen::NOTHING)
     }
 }
 
 /// The state of a sealed file when an error is found in it.
 #[derive(Clone, Copy)]
 pub struct Seen {
-    /// Whether its header is that of version 1.
-    pub is_first_version: bool,
     /// How many bytes of the contents are right, if they were counted.
     pub verified: Verified,
     /// The record at which reading began.
@@ -213,7 +201,6 @@ pub struct Seen {
 impl Seen {
     /// Nothing is known.
     pub const NOTHING: Seen = Seen {
-        is_first_version: false,
         verified: Verified(None),
         start: FIRST,
         read: None,
@@ -221,9 +208,8 @@ impl Seen {
     };
 
     /// A whole file after `read` bytes of it were read, and `verified` bytes of its contents were verified.
-    pub fn whole(is_first_version: bool, read: u64, verified: u64) -> Self {
+    pub fn whole(read: u64, verified: u64) -> Self {
         Seen {
-            is_first_version,
             verified: Verified(Some(verified)),
             start: FIRST,
             read: Some(read.saturating_sub(BEGINNING_BYTES)),
@@ -250,8 +236,6 @@ impl Seen {
 #[derive(Debug, Drop)]
 pub enum PartError {
     File(FileError),
-    /// The header is that of version 1.
-    FirstVersion,
     /// The part begins after the last byte of the contents. Their length is the field.
     PastBytes(u64),
 }

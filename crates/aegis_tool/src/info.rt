@@ -1,7 +1,7 @@
 //! The properties of a sealed file that are visible without its key.
 
 use crate::command::{Place, Transfer};
-use crate::failure::{Failure, PartError, printed};
+use crate::failure::{Failure, printed};
 use crate::output::{refuse_errors, refuse_inputs};
 use crate::progress::Counted;
 use crate::range::{lengths, read_prefix};
@@ -39,13 +39,8 @@ fn skip<R: Read>(input: &mut R, count: usize) -> Result<u64, FileError> {
 }
 
 // Goes from record to record by their lengths.
-fn outline_of<R: Read>(input: &mut R) -> Result<Outline, PartError> {
+fn outline_of<R: Read>(input: &mut R) -> Result<Outline, FileError> {
     read_prefix(input)?;
-    outline_of_records(input).map_err(PartError::File)
-}
-
-// The outline of the records that follow the prefix and the header.
-fn outline_of_records<R: Read>(input: &mut R) -> Result<Outline, FileError> {
     let lengths = lengths();
     let mut seen = Outline {
         records: 0,

@@ -2,7 +2,6 @@
 
 ghost use Rattle.std.specs.Prelude.{None};
 
-use aegis::record::Version;
 use std::io;
 use std::io::{ErrorKind, Read, Write};
 use std::time::Instant;
@@ -103,7 +102,6 @@ pub struct Counted<'a, R: Read + Drop> {
     read: u64,
     said: u64,
     has_ended: bool,
-    first_bytes: [u8; 28],
     // The last two times that are at least `WINDOW` apart.
     older: Mark,
     newer: Mark,
@@ -118,7 +116,6 @@ impl<'a, R: Read + Drop> Counted<'a, R> {
             read: 0,
             said: 0,
             has_ended: false,
-            first_bytes: [0; 28],
             older: BEGINNING,
             newer: BEGINNING,
         }
@@ -127,11 +124,6 @@ impl<'a, R: Read + Drop> Counted<'a, R> {
     /// How many bytes were read.
     pub fn count(&self) -> u64 {
         self.read
-    }
-
-    /// Whether bytes 24 to 27 are the header of version 1.
-    pub fn is_first_version(&self) -> bool {
-        &self.first_bytes[24..] == Version::First.header()
     }
 
     // Shows the progress, with the rate of the last seconds.
@@ -169,11 +161,6 @@ impl<R: Read + Drop> Read for Counted<'_, R> {
         }
         let count = self.inner.read(buf)?;
         self.has_ended = count == 0;
-        for (place, byte) in (self.read..28).zip(buf[..count].iter()) {
-            if let Some(first) = self.first_bytes.get_mut(place as usize) {
-                *first = *byte;
-            }
-        }
         self.read = self.read.saturating_add(count as u64);
         if self.read.saturating_sub(self.said) >= STEP {
             self.said = self.read;

@@ -67,16 +67,13 @@ fn read<R: Read>(input: &mut R, buffer: &mut [u8], short: RecordError) -> Result
 }
 
 /// Reads the prefix and the header of a sealed file, and returns the prefix.
-pub fn read_prefix<R: Read>(input: &mut R) -> Result<[u8; 24], PartError> {
+pub fn read_prefix<R: Read>(input: &mut R) -> Result<[u8; 24], FileError> {
     let mut prefix = [0; 24];
     read(input, &mut prefix, RecordError::Header)?;
     let mut header = [0; 4];
     read(input, &mut header, RecordError::Header)?;
-    if header.as_slice() == Version::First.header() {
-        return Err(PartError::FirstVersion);
-    }
     if header.as_slice() != Version::Second.header() {
-        return Err(PartError::File(FileError::Stream(RecordError::Header)));
+        return Err(FileError::Stream(RecordError::Header));
     }
     Ok(prefix)
 }

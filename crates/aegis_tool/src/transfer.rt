@@ -85,7 +85,7 @@ fn carry<R: Read, W: Write>(
 // The state of a sealed file after a task has failed that wrote `written` bytes.
 fn seen<R: Read + Drop>(task: &Task, input: &Counted<'_, R>, written: u64) -> Seen {
     match task {
-        Task::Open { .. } => Seen::whole(input.is_first_version(), input.count(), written),
+        Task::Open { .. } => Seen::whole(input.count(), written),
         Task::OpenPart { start, .. } => {
             let position = start.range.position;
             Seen {
@@ -99,10 +99,7 @@ fn seen<R: Read + Drop>(task: &Task, input: &Counted<'_, R>, written: u64) -> Se
                 ..Seen::NOTHING
             }
         }
-        Task::Seal { .. } | Task::Rekey { .. } => Seen {
-            is_first_version: input.is_first_version(),
-            ..Seen::NOTHING
-        },
+        Task::Seal { .. } | Task::Rekey { .. } => Seen::NOTHING,
     }
 }
 
