@@ -97,7 +97,6 @@ check-mutants:
 # contract reaches is listed, each mutant can be applied, and no link leads nowhere.
 check-pages:
 	python3 tools/check_pages.py
-	python3 tools/check_habits.py
 	python3 tools/check_definitions.py
 	python3 tools/mutants.py check
 

@@ -65,7 +65,7 @@ def reached():
 def faults():
     """Yields what is wrong with the list."""
     wanted, listed, page = reached(), set(), PAGE.read_text("utf-8")
-    for part, words in (page, "have {:,} lines"), (page.partition("**Chunks")[0], "in {:,} lines"):
+    for part, words in (page, "is {:,} lines"), (page.partition("**Chunks")[0], "in {:,} lines"):
         words = words.format(sum(int(lines) for _, _, lines in ROW.findall(part)))
         if words not in " ".join(pathlib.Path("README.md").read_text("utf-8").split()):
             yield f"README.md lacks: {words}"

@@ -4,11 +4,14 @@
   aside. Those of the module docs of `aegis` stand in another crate. Samples in ```python are run (tools/check_python.sh).
 - What a page calls is there: the commands of the tool and the targets of make in ```sh or between two `, and the functions
   of docs/RANDOM-ACCESS.md.
+- A function in a table of contracts is there, and so is each clause or definition that stands beside it: in the contract of
+  one of the row's functions, if they are found. So are the definitions in a table of steps.
+- The version of each file that has one is that of VERSION.
 - The speeds of README.md are those of the tables of bench/, and the lengths of docs/RANDOM-ACCESS.md those of the headers.
 - A link to a file of the repository leads to one, and its fragment to a heading.
 - A source in Rattle or Rust is named by a `mod` item of the one above it, so no module of tests is left out.
 - A line of a contract has at most 100 columns, one of a source or a page at most 120, but for imports, attributes, tables
-  and links; a decision has at most five lines, and some pages have a length of their own.
+  and links.
 
 check_pages.py links: only the links, of the pages of a release.
 """
@@ -17,14 +20,14 @@ import pathlib
 import re
 import sys
 
+import mutants
+
 ROOT = pathlib.Path(".")
 SKIPPED = {"out", ".git", "target"}
 PAGES = [page for page in sorted(ROOT.glob("**/*.md")) if not SKIPPED & set(page.parts)]
 SOURCES = sorted(ROOT.glob("crates/*/src/**/*.rt"))
-DECISIONS = ROOT / "docs/DECISIONS.md"
-MOST_LINES = {"README.md": 125, "docs/CALLING.md": 150, "docs/PROOFS.md": 250, "Makefile": 120}
 # The pages that have to show something in a language.
-SHOWN = {"README.md": "rust rs c python", "docs/CALLING.md": "rust", "python/README.md": "python"}
+SHOWN = {"README.md": "rs c python", "docs/RATTLE.md": "rust", "python/README.md": "python"}
 
 CLAUSE = re.compile(r"\s*(requires|ensures)\b")
 SAMPLE = re.compile(r"^```(\w*)\n(.*?)^```$", re.M | re.S)
@@ -83,10 +86,58 @@ def strange_words():
         words = re.findall(r"^(?:\S*/)?(hunkravy \S+|make [\w+][\w+-]*)", shell, re.M)
         words += re.findall(r"`(hunkravy [\w-]+|make [\w+][\w+-]*)(?: [^`]*)?`", read(page))
         yield from (f"{page}: there is no {word}" for word in words if not any(re.fullmatch(each, word) for each in known))
-    pages = joined(ROOT.glob("crates/aegis_pages/src/**/*.rt"))
+    raf = joined(ROOT.glob("rust/src/raf/*.rs"))
     for language, sample in SAMPLE.findall(read(ROOT / "docs/RANDOM-ACCESS.md")):
-        called = re.findall(r"(?:SealedPages::|pages\.)(\w+)\(", sample) if language == "text" else []
-        yield from (f"docs/RANDOM-ACCESS.md: there is no function {name}" for name in called if f"pub fn {name}" not in pages)
+        called = re.findall(r"(?:Raf::<\w+>::|Raf::|file\.)(\w+)\(", sample) if language == "text" else []
+        yield from (f"docs/RANDOM-ACCESS.md: there is no function {name}" for name in called if f"pub fn {name}" not in raf)
+
+
+# ---- The tables of contracts
+
+TABLE = re.compile(r"(?:^\|.*\n)+", re.M)
+CODE = re.compile(r"`([^`]+)`")
+DEFINED = re.compile(r"^(?:(?:pub|record|data|abbrev|unfoldable) )+(\w+)", re.M)
+GHOST = re.compile(r"\bghost (\w+) =")
+
+
+def rows(page):
+    """Yields the rows of the tables of a page, each as its cells by their headings."""
+    for table in TABLE.findall(read(page)):
+        head, _, *lines = [[cell.strip() for cell in line.strip("|\n").split(" | ")] for line in table.splitlines(True)]
+        yield from (dict(zip(map(str.strip, head), line)) for line in lines)
+
+
+def words(cell):
+    """Returns the names in the code of a cell: of a path the last one, and of a call the function."""
+    names = (re.fullmatch(r"(?:\w+::)*(\w+)(?:\(.*\))?", code.strip()) for code in CODE.findall(cell))
+    return [name[1] for name in names if name]
+
+
+def definitions(file="*.antt"):
+    """Returns the names of the definitions in files of this name, or in all."""
+    return {name for path in ROOT.glob(f"crates/*/specs/**/{file}") for name in DEFINED.findall(read(path))}
+
+
+def strange_contracts():
+    """Yields each function, clause and definition of a table that is not there."""
+    crates = sorted(path for path in mutants.CRATES.iterdir() if path.is_dir())
+    in_c = set(re.findall(r"hunkravy(_\w+)\(", joined(sorted(ROOT.glob("c/include/*.h")))))
+    sources = joined(SOURCES)
+    others = set(re.findall(r"\b(?:struct|enum|trait|type|mod|derive\() ?(\w+)|impl(?:<.*?>)? (\w+)", sources))
+    named = {function.name for crate in crates for function in mutants.functions_of(crate)} | in_c
+    named |= {crate.name for crate in crates}.union(*others)
+    known = definitions().union(GHOST.findall(sources), *mutants.fields().values())
+    clauses = {name for path in SOURCES for name in mutants.clauses_of(read(path))}
+    for page in [page for page in PAGES if page.parts[0] in ("crates", "docs")]:
+        for row in rows(page):
+            clause = row.get("Clause", "")
+            functions, laws = words(row.get("Function", row.get("Call", ""))), words(" ".join(re.findall(r"`\w+::\w+`", clause)))
+            said = [] if clause.startswith("those of") else [name for name in words(clause) if name not in laws]
+            yield from (f"{page}: there is no function {name}" for name in functions + laws if name not in named)
+            there = {name for crate in crates for function in functions for name in mutants.names_of(crate, function)}
+            yield from (f"{page}: no contract of {functions} has {name}" for name in said if name not in (there or clauses) | known)
+            there = {name for file in CODE.findall(row.get("File", "")) for name in definitions(file)}
+            yield from (f"{page}: no definition {name} there" for name in words(row.get("Definition", "")) if name not in there)
 
 
 # What pages state of the tables of bench/ and of the constants of the headers.
@@ -178,21 +229,30 @@ def long_lines(path):
             inside = False
 
 
-def long_texts():
-    """Yields each decision and each page that is too long."""
-    for entry in read(DECISIONS).split("\n\n"):
-        lines = entry.splitlines()
-        if entry.startswith("**") and len(lines) > 5:
-            yield f"{DECISIONS}: {len(lines)} lines: {lines[0]}"
-    for page, most in MOST_LINES.items():
-        count = len(read(ROOT / page).splitlines())
-        if count > most:
-            yield f"{page}: {count} lines, and at most {most} are allowed"
+# Each file that has the version, and how it has it.
+VERSIONED = {
+    "CHANGELOG.md": "## [{0}] - ",
+    "c/include/hunkravy.h": '#define HUNKRAVY_VERSION "{0}"\n#define HUNKRAVY_VERSION_MAJOR {1}\n'
+    "#define HUNKRAVY_VERSION_MINOR {2}\n#define HUNKRAVY_VERSION_PATCH {3}\n",
+    "crates/aegis_tool/src/version.rt": 'const VERSION: &str = "{0}";',
+    "crates/hunkravy/manual/man": '"hunkravy {0}"',
+    "rust/Cargo.toml": 'version = "{0}"\n',
+    "rust/Cargo.lock": 'name = "hunkravy"\nversion = "{0}"\n',
+    "README.md": "hunkravy-{0}-x86_64-linux",
+}
+
+
+def strange_versions():
+    """Yields each file that has another version than VERSION."""
+    version = read(ROOT / "VERSION").strip()
+    for path, text in VERSIONED.items():
+        if (wanted := text.format(version, *version.split("."))) not in read(ROOT / path):
+            yield f"{path}: it does not have: {wanted}"
 
 
 found = list(dead_links())
 if sys.argv[1:] != ["links"]:
-    found += [*strange_samples(), *strange_words(), *strange_numbers(), *long_texts(), *unnamed_modules()]
+    found += [*strange_samples(), *strange_words(), *strange_contracts(), *strange_numbers(), *strange_versions(), *unnamed_modules()]
     found += [place for path in [*SOURCES, *PAGES] for place in long_lines(path)]
 print("\n".join(found), end="\n" if found else "")
 sys.exit(bool(found))

@@ -93,8 +93,9 @@ def functions(path):
     text, found = path.read_text("utf-8"), []
     for match in FUNCTION.finditer(text):
         indent, name = match.groups()
-        body = re.compile(rf"^{indent}\{{$|;$|\{{\}}$", re.M).search(text, match.end())
-        same_line = re.compile(r"[^\n]*\{$", re.M).match(text, match.end())
+        # A field of a record in a contract ends with a semicolon too.
+        body = re.compile(rf"^{indent}\{{$|^(?! +\w+ = ).*;$|\{{\}}$", re.M).search(text, match.end())
+        same_line = re.compile(r"[^\n]*[{;]$", re.M).match(text, match.end())
         start = same_line.end() if same_line else body.end() if body else match.end()
         end = re.compile(rf"^{indent}\}}$", re.M).search(text, start)
         is_declared = text[start - 1] == ";"

@@ -319,7 +319,7 @@ void hunkravy_wipe(void *bytes, size_t length);
 /* The version of this header. hunkravy_version returns the version of the library that runs. */
 #define HUNKRAVY_VERSION "0.1.0"
 #define HUNKRAVY_VERSION_MAJOR 0
-#define HUNKRAVY_VERSION_MINOR 2
+#define HUNKRAVY_VERSION_MINOR 1
 #define HUNKRAVY_VERSION_PATCH 0
 const char *hunkravy_version(void);
 

@@ -1,9 +1,12 @@
 //! Encrypts a message with AEGIS-256, and decrypts it again.
 
-use hunkravy::aegis256::{Aegis256, Error};
+use hunkravy::aegis256::Aegis256;
 
-fn main() -> Result<(), Error> {
-    let (key, nonce) = ([1; 32], [2; 32]); // generate both at random, and a nonce for each message
+fn main() -> Result<(), Box<dyn std::error::Error>> {
+    let (mut key, mut nonce) = ([0; 32], [0; 32]);
+    hunkravy::fill_random(&mut key)?;
+    hunkravy::fill_random(&mut nonce)?; // another one for each message
+
     let mut buffer = *b"a message";
     let tag = Aegis256::<32>::new(&key, &nonce).encrypt_in_place(&mut buffer, b"header");
 

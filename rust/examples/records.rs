@@ -1,9 +1,9 @@
 //! Sends encrypted messages over a pair of sockets: changed, missing, repeated or moved messages, and a truncated stream, are
 //! detected.
 
+use hunkravy::fill_random;
 use hunkravy::records::{HEADER_BYTES, Key, Opener, Prefix, RECORD_HEAD_BYTES, Sealer};
 use std::error::Error;
-use std::fs::File;
 use std::io::{Read, Write};
 use std::os::unix::net::UnixStream;
 use std::thread;
@@ -15,7 +15,8 @@ const CONTEXT: &[u8] = b"hunkravy example: messages";
 
 /// Sends messages, after the prefix of their stream, which is random, and its header.
 fn send(to: &mut impl Write, key: &Key, messages: &[&str], last: &str) -> Result<()> {
-    let prefix: Prefix = read(&mut File::open("/dev/urandom")?)?;
+    let mut prefix: Prefix = [0; 24];
+    fill_random(&mut prefix)?;
     let mut sealer = Sealer::new(key, &prefix, CONTEXT)?;
     to.write_all(&prefix)?;
     to.write_all(&sealer.header())?;
@@ -57,7 +58,8 @@ fn read<const N: usize>(from: &mut impl Read) -> Result<[u8; N]> {
 
 fn main() -> Result<()> {
     // Both sides have the key. Each direction may use it, since each stream has a prefix of its own.
-    let key = read(&mut File::open("/dev/urandom")?)?;
+    let mut key: Key = [0; 32];
+    fill_random(&mut key)?;
     let (mut near, mut far) = UnixStream::pair()?;
     let sender =
         thread::spawn(move || send(&mut near, &key, &["the first message"], "the last message"));

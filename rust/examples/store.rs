@@ -60,7 +60,8 @@ fn read_key(path: &str) -> Result<[u8; 32]> {
 }
 
 fn try_all(path: &Path) -> Result<()> {
-    let key = read_key("/dev/urandom")?;
+    let mut key = [0; 32];
+    hunkravy::fill_random(&mut key)?;
     Store::open(path, &key)?.set("colour", "red")?;
     let mut store = Store::open(path, &key)?;
     store.set("shape", "round")?;

@@ -17,6 +17,17 @@ pub(crate) fn open() -> io::Result<File> {
     File::open("/dev/urandom")
 }
 
+/// Fills a key, a nonce or a prefix with random bytes of the system.
+///
+/// Early after a boot it waits until the system has seeded its source.
+///
+/// # Errors
+///
+/// If `/dev/random` or `/dev/urandom` cannot be opened or read. Do not use `buf` then.
+pub fn fill_random(buf: &mut [u8]) -> io::Result<()> {
+    fill(&mut open()?, buf)
+}
+
 /// Fills `buf` from a source. An error if it ends before.
 pub(crate) fn fill(source: &mut impl Read, buf: &mut [u8]) -> io::Result<()> {
     source.read_exact(buf)
@@ -24,7 +35,7 @@ pub(crate) fn fill(source: &mut impl Read, buf: &mut [u8]) -> io::Result<()> {
 
 #[cfg(test)]
 mod tests {
-    use super::fill;
+    use super::{fill, fill_random};
     use std::io::{self, ErrorKind, Read};
 
     /// A source that gives a byte a read, and has so many.
@@ -37,6 +48,16 @@ mod tests {
             self.0 -= count as u8;
             Ok(count)
         }
+    }
+
+    #[test]
+    fn two_keys_differ() {
+        let mut keys = [[0; 32]; 2];
+        for key in &mut keys {
+            fill_random(key).unwrap();
+        }
+        assert_ne!(keys[0], keys[1]);
+        assert!(keys.iter().all(|key| key[24..] != [0; 8]));
     }
 
     #[test]

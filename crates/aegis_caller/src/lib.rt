@@ -1,5 +1,5 @@
 //! Callers of the library, one of each kind of call and one at each variant, proved from its contracts alone: the crate
-//! has no proof file. `docs/CALLING.md` and the docs of `aegis` show some of them.
+//! has no proof file. `docs/RATTLE.md` and the docs of `aegis` show some of them.
 #![tactic(auto)]
 
 pub mod c_library;

@@ -2,7 +2,7 @@
 
 use super::{CONTEXT, HEAD_BYTES, Key, PIECE_BYTES};
 use crate::memory::zeros;
-use crate::random;
+use crate::random::fill_random;
 use crate::records::{Prefix, RECORD_BYTES, RECORD_HEAD_BYTES, Sealer};
 use crate::wipe::Wiped;
 use alloc::vec::Vec;
@@ -51,7 +51,7 @@ impl<W: Write> SealedWriter<W> {
     pub fn new(mut inner: W, key: &Key) -> io::Result<Self> {
         let record = Wiped(zeros(RECORD_BYTES + PIECE_BYTES)?);
         let mut prefix = Prefix::default();
-        random::fill(&mut random::open()?, &mut prefix)?;
+        fill_random(&mut prefix)?;
         let sealer = Sealer::new(key, &prefix, CONTEXT)?;
         let mut head = [0; HEAD_BYTES];
         head[..prefix.len()].copy_from_slice(&prefix);
