@@ -141,11 +141,14 @@ def strange_contracts():
 
 
 # What pages state of the tables of bench/ and of the constants of the headers.
+SPEED = (
+    "libsodium's AEGIS is {slowest:.0f} to {fastest:.0f} times as fast",
+    "AEGIS-256 encrypts 1 MiB at {speed:,} MB/s, and libsodium's AEGIS-256 without AES instructions at {software} MB/s",
+)
 STATED = {
-    "README.md": (
-        "libsodium is {slowest:.0f} to {fastest:.0f} times as fast",
-        "AEGIS-256 encrypts 1 MiB in place at {speed:,} MB/s",
-    ),
+    "README.md": SPEED,
+    "rust/README.md": SPEED,
+    "python/README.md": SPEED,
     "docs/RANDOM-ACCESS.md": (
         "N bytes: {AEGIS128_NONCE_BYTES} for AEGIS-128L, 128X2 and 128X4, and {AEGIS256_NONCE_BYTES} for AEGIS-256, 256X2",
         "| 4 | the page size, from {PAGE_MIN_SIZE} to {PAGE_MAX_SIZE:,} bytes |",
@@ -163,18 +166,18 @@ STATED = {
 
 def numbers():
     """Returns the numbers of the tables of bench/ and of the headers, by their names."""
-    ratios, speed = [], None
+    ratios, rows = [], {}
     for table in ("bench/PEERS.md", "bench/x86-64-v3/PEERS.md"):
         lines = re.findall(r"^\| ([^|]+) \| ([\d |]+\d) \|$", read(ROOT / table), re.M)
         rows = {name: list(map(int, numbers.split("|"))) for name, numbers in lines}
         for name in ("AEGIS-128L", "AEGIS-256"):
             ratios += [peer / own for peer, own in zip(rows[f"libsodium {name}, AES instructions"], rows[name])]
-        speed = rows["AEGIS-256"][-1]
     text = "".join(read(path) for path in sorted(ROOT.glob("c/include/*.h")))
     found = {name: int(value) for name, value in re.findall(r"^#define HUNKRAVY_(\w+) (\d+)$", text, re.M)}
     block = found["PAGE_FIRST"] - found["PAGE_TAG_BYTES"]
     found |= {"most_contents": block - found["AEGIS256_NONCE_BYTES"], "contents": block - found["AEGIS128_NONCE_BYTES"]}
-    return found | {"slowest": min(ratios), "fastest": max(ratios), "speed": speed}
+    software, speed = rows["libsodium AEGIS-256, software"][-1], rows["AEGIS-256"][-1]
+    return found | {"slowest": min(ratios), "fastest": max(ratios), "software": software, "speed": speed}
 
 
 def strange_numbers():

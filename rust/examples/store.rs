@@ -1,5 +1,6 @@
 //! A small store of names and values in an encrypted file. A crash leaves all of a change, or nothing of it; but a crash
-//! during creation may leave a file that does not open: remove it.
+//! during creation may leave a file that does not open: remove it. Each change writes all values again, in a commit of five
+//! syncs: this is for some thousand values, and not for many changes a second.
 //!
 //! `store KEYFILE FILE NAME=VALUE` sets a value, and `store KEYFILE FILE` prints all of them. A key is made by
 //! `head -c 32 /dev/urandom > KEYFILE`. Without arguments it tests itself on a file that it removes.
