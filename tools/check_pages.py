@@ -120,12 +120,13 @@ def definitions(file="*.antt"):
 
 def strange_contracts():
     """Yields each function, clause and definition of a table that is not there."""
-    crates = sorted(path for path in mutants.CRATES.iterdir() if path.is_dir())
+    contracts = {}
+    for function in (function for path in SOURCES for function in mutants.functions(path)):
+        contracts.setdefault(function.name, set()).update(mutants.names_in(function.contract))
     in_c = set(re.findall(r"hunkravy(_\w+)\(", joined(sorted(ROOT.glob("c/include/*.h")))))
     sources = joined(SOURCES)
     others = set(re.findall(r"\b(?:struct|enum|trait|type|mod|derive\() ?(\w+)|impl(?:<.*?>)? (\w+)", sources))
-    named = {function.name for crate in crates for function in mutants.functions_of(crate)} | in_c
-    named |= {crate.name for crate in crates}.union(*others)
+    named = in_c.union(contracts, {path.parts[1] for path in SOURCES}, *others)
     known = definitions().union(GHOST.findall(sources), *mutants.fields().values())
     clauses = {name for path in SOURCES for name in mutants.clauses_of(read(path))}
     for page in [page for page in PAGES if page.parts[0] in ("crates", "docs")]:
@@ -134,7 +135,7 @@ def strange_contracts():
             functions, laws = words(row.get("Function", row.get("Call", ""))), words(" ".join(re.findall(r"`\w+::\w+`", clause)))
             said = [] if clause.startswith("those of") else [name for name in words(clause) if name not in laws]
             yield from (f"{page}: there is no function {name}" for name in functions + laws if name not in named)
-            there = {name for crate in crates for function in functions for name in mutants.names_of(crate, function)}
+            there = set().union(*(contracts.get(name, ()) for name in functions))
             yield from (f"{page}: no contract of {functions} has {name}" for name in said if name not in (there or clauses) | known)
             there = {name for file in CODE.findall(row.get("File", "")) for name in definitions(file)}
             yield from (f"{page}: no definition {name} there" for name in words(row.get("Definition", "")) if name not in there)

@@ -24,7 +24,7 @@ said=$(memcheck) || { cat "$log" >&2; exit 1; }
 echo "$said"
 openings=${said##* }
 awk -v messages="$((openings / 3))" '
-    BEGIN { most["at-once"] = most["on-a-state"] = most["all-of-a-page"] = 3; most["in-place"] = 11; most["what-a-header-has"] = 4 }
+    BEGIN { most["at-once"] = most["on-a-state"] = most["all-of-a-page"] = 3; most["in-place"] = 11; most["what-a-header-has"] = 1 }
     / used_suppression: / && sub(/^accepted-or-refused-/, "", $4) { count[$4] += $3 }
     END {
         for (kind in count) {

@@ -153,14 +153,17 @@ def clauses_of(text):
     return {name for _, name in CLAUSE.findall(text)}
 
 
+@functools.cache
+def names_in(contract):
+    """Returns the names that the clauses of a contract have: their own, and those of the definitions and fields that they say."""
+    words = words_of(contract)
+    found = clauses_of(contract) | {word for word in words if word[0].isupper()}
+    return found.union(*(fields().get(word, ()) for word in words))
+
+
 def names_of(crate, function):
-    """Returns the names that a function's clauses have: their own, and those of the definitions and fields that they say."""
-    found = set()
-    for contract in contracts(crate, function):
-        words = words_of(contract)
-        found |= clauses_of(contract) | {word for word in words if word[0].isupper()}
-        found = found.union(*(fields().get(word, ()) for word in words))
-    return found
+    """Returns the names that a function's clauses have."""
+    return set().union(*map(names_in, contracts(crate, function)))
 
 
 def part_fault(edit, part):
