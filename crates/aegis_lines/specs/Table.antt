@@ -37,7 +37,7 @@ pieces_of field = cut_at 44 field
 abbrev pub field_of : List (List ℕ) → ℕ → List ℕ
 field_of fields i = slice_index_or fields i []
 
--- whether a field, or a piece, is of bytes: `-`, or an even number, at least two, of hexadecimal digits of either case
+-- whether a field, or a piece, is of bytes: `-` for none, or pairs of hexadecimal digits in upper or lower case
 unfoldable pub is_bytes : List ℕ → Bool
 is_bytes field = bytes_eq field (codes "-") || (nat_le 2 (length field) && length field % 2 == 0 && list_all is_hex_digit field)
 
