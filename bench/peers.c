@@ -1,18 +1,17 @@
 /*
- * Sealing in place by the library and by libsodium, in one process: MB/s, as lines of a table.
+ * Encrypts in place with the library and with libsodium, in one process and in turns, and prints the time of each turn for
+ * table.py.
  *
- * libsodium's AEGIS is measured before sodium_init, where it runs in software, and after it, where it runs by the
- * processor's AES instructions; its ChaCha20-Poly1305 and its AES-256-GCM, which needs these instructions, after it. The contenders take turns, and the best
- * turn of each counts. How fast a loop is depends on where its vectors on the stack lie in the lines of the cache, so the
- * turns are made at four places of the stack. Each call does all of its work on one message with no associated data;
- * AEGIS makes tags of 32 bytes.
+ * libsodium's AEGIS is measured before sodium_init, where it runs in software, and after it, where it runs with the
+ * processor's AES instructions; its ChaCha20-Poly1305 and its AES-256-GCM, which needs these instructions, after it. How fast
+ * a loop is depends on where its vectors on the stack lie in the lines of the cache, so the turns are made at four places of
+ * the stack. Each call does all of its work on one message with no associated data. AEGIS makes tags of 32 bytes.
  */
 #include "hunkravy.h"
 
 #include <sodium.h>
 #include <stdio.h>
 #include <stdlib.h>
-#include <string.h>
 #include <time.h>
 
 /* The turns, a quarter of them at each of four places of the stack, which are 16 bytes apart. */
@@ -22,6 +21,7 @@
 #define LONGEST (1024 * 1024)
 
 static const size_t SIZES[] = {64, 1024, 16 * 1024, LONGEST};
+static const char *const SIZE_NAMES[] = {"64", "1 KiB", "16 KiB", "1 MiB"};
 #define SIZE_COUNT (sizeof SIZES / sizeof SIZES[0])
 
 static uint8_t buffer[LONGEST];
@@ -65,8 +65,7 @@ SODIUM(aes256gcm)
 
 struct contender {
     const char *name;
-    void (*seal)(size_t length);
-    double best[SIZE_COUNT];
+    void (*encrypt)(size_t length);
 };
 
 static double now(void)
@@ -77,69 +76,58 @@ static double now(void)
     return (double)time.tv_sec + (double)time.tv_nsec * 1e-9;
 }
 
-/* The speed of one turn: as many messages as TURN_BYTES make, and one at least, after one that is not timed. */
-static double turn(const struct contender *contender, size_t length, size_t place)
+/* One turn: as many messages as TURN_BYTES make, and one at least, after one that is not timed. */
+static void turn(const struct contender *contender, size_t size, size_t place)
 {
     volatile uint8_t room[16 * (place + 1)];
-    size_t count = length < TURN_BYTES ? TURN_BYTES / length : 1;
-    double begin, speed;
+    size_t length = SIZES[size], count = length < TURN_BYTES ? TURN_BYTES / length : 1;
+    double begin, seconds;
 
     room[place] = 0;
-    contender->seal(length);
+    contender->encrypt(length);
     begin = now();
     for (size_t i = 0; i < count; i++) {
-        contender->seal(length);
+        contender->encrypt(length);
     }
-    speed = (double)(count * length) / (now() - begin) / 1e6;
+    seconds = now() - begin;
     expect(room[place] == 0);
-    return speed;
+    printf("%s\t%s\t%.9f\t%zu\n", contender->name, SIZE_NAMES[size], seconds, count * length);
 }
 
-static void measure(struct contender *contenders, size_t count)
+/* Each length has turns in all of the time that the measurement takes. */
+static void measure(const struct contender *contenders, size_t count)
 {
-    /* So each length has turns in all of the time that the measurement takes. */
     for (size_t i = 0; i < TURNS; i++) {
         for (size_t size = 0; size < SIZE_COUNT; size++) {
             for (size_t c = 0; c < count; c++) {
-                double speed = turn(&contenders[c], SIZES[size], i % PLACES);
-                if (speed > contenders[c].best[size]) {
-                    contenders[c].best[size] = speed;
-                }
+                turn(&contenders[c], size, i % PLACES);
             }
         }
-    }
-    for (size_t c = 0; c < count; c++) {
-        printf("| %s |", contenders[c].name);
-        for (size_t size = 0; size < SIZE_COUNT; size++) {
-            printf(" %.0f |", contenders[c].best[size]);
-        }
-        printf("\n");
     }
 }
 
 int main(void)
 {
-    struct contender software[] = {
-        {"libsodium AEGIS-128L, software", sodium_aegis128l, {0}},
-        {"libsodium AEGIS-256, software", sodium_aegis256, {0}},
+    static const struct contender software[] = {
+        {"libsodium AEGIS-128L, software", sodium_aegis128l},
+        {"libsodium AEGIS-256, software", sodium_aegis256},
     };
-    struct contender all[] = {
-        {"AEGIS-128L", ours_aegis128l, {0}},
-        {"AEGIS-128X2", ours_aegis128x2, {0}},
-        {"AEGIS-128X4", ours_aegis128x4, {0}},
-        {"AEGIS-256", ours_aegis256, {0}},
-        {"AEGIS-256X2", ours_aegis256x2, {0}},
-        {"AEGIS-256X4", ours_aegis256x4, {0}},
-        {"libsodium ChaCha20-Poly1305", sodium_chacha20poly1305_ietf, {0}},
-        {"libsodium AES-256-GCM, AES instructions", sodium_aes256gcm, {0}},
-        {"libsodium AEGIS-128L, AES instructions", sodium_aegis128l, {0}},
-        {"libsodium AEGIS-256, AES instructions", sodium_aegis256, {0}},
+    static const struct contender all[] = {
+        {"AEGIS-128L", ours_aegis128l},
+        {"AEGIS-128X2", ours_aegis128x2},
+        {"AEGIS-128X4", ours_aegis128x4},
+        {"AEGIS-256", ours_aegis256},
+        {"AEGIS-256X2", ours_aegis256x2},
+        {"AEGIS-256X4", ours_aegis256x4},
+        {"libsodium ChaCha20-Poly1305", sodium_chacha20poly1305_ietf},
+        {"libsodium AES-256-GCM, AES instructions", sodium_aes256gcm},
+        {"libsodium AEGIS-128L, AES instructions", sodium_aegis128l},
+        {"libsodium AEGIS-256, AES instructions", sodium_aegis256},
     };
 
-    printf("| Encryption, MB/s | 64 | 1 KiB | 16 KiB | 1 MiB |\n|---|---:|---:|---:|---:|\n");
     measure(software, sizeof software / sizeof software[0]);
     expect(sodium_init() >= 0 && crypto_aead_aes256gcm_is_available());
     measure(all, sizeof all / sizeof all[0]);
-    printf("\nlibsodium %s, hunkravy at level %d, C compiler %s.\n", sodium_version_string(), hunkravy_level(), __VERSION__);
+    printf("libsodium %s, hunkravy at level %d, C compiler %s.\n", sodium_version_string(), hunkravy_level(), __VERSION__);
     return 0;
 }

@@ -1,6 +1,6 @@
 /*
- * Seals 1 GiB of memory in pieces of 64 KiB by AEGIS-256 with tags of 32 bytes, as the records of a sealed file are. Its
- * processor time is what tools/measure_tool.sh compares the file tool with.
+ * Encrypts 1 GiB of memory in pieces of 64 KiB with AEGIS-256 with tags of 32 bytes, as the records of a sealed file are. Its
+ * processor time is what bench/tool.sh compares the file tool with.
  */
 #include <hunkravy.h>
 #include <stdlib.h>

@@ -1,8 +1,6 @@
-"""Measures the Python package beside others: one message a call, the best of many turns.
+"""Measures the Python package beside others, one message a call, and prints the time of each round for table.py.
 
-    python.py [LIBRARY]     LIBRARY is the shared C library
-
-`make bench-python` writes bench/PYTHON.md with it.
+    python.py LIBRARY     LIBRARY is the shared C library
 """
 
 import ctypes
@@ -33,13 +31,6 @@ def best(call: Call) -> float:
         call()
         shortest = min(shortest, time.perf_counter() - start)
     return shortest
-
-
-def shortest_times(makers: Makers) -> dict[tuple[str, int], float]:
-    """The shortest time of each call at each size."""
-    calls = {(name, size): maker(bytes(size)) for name, maker in makers.items() for size in SIZES.values()}
-    rounds = [{key: best(call) for key, call in calls.items()} for _ in range(ROUNDS)]
-    return {key: min(times[key] for times in rounds) for key in calls}
 
 
 def opened(message: bytes) -> Call:
@@ -112,18 +103,14 @@ def main() -> None:
         "`SealedWriter`": written,
         "`SealedReader`": read,
     }
-    if len(sys.argv) > 1:
-        makers["the C library"] = c_library(sys.argv[1])
+    makers["the C library"] = c_library(sys.argv[1])
     makers |= others()
-    times = shortest_times(makers)
-    for title, shown in (
-        ("MB/s", lambda size, seconds: f"{size / seconds / 1e6:.0f}"),
-        ("µs", lambda size, seconds: f"{seconds * 1e6:.1f}"),
-    ):
-        print(f"| {title} | {' | '.join(SIZES)} |\n|---|{'---:|' * len(SIZES)}")
-        for name in makers:
-            print(f"| {name} | {' | '.join(shown(size, times[name, size]) for size in SIZES.values())} |")
-        print()
+    calls = [
+        (name, title, size, maker(bytes(size))) for name, maker in makers.items() for title, size in SIZES.items()
+    ]
+    for _ in range(ROUNDS):
+        for name, title, size, call in calls:
+            print(name, title, best(call), size, sep="\t")
     print(f"Python {platform.python_version()}.")
 
 

@@ -1,13 +1,10 @@
 //! The AEGIS ciphers, after draft-irtf-cfrg-aegis-aead: AEGIS-128 and AEGIS-256, with one, two or four lanes side by side.
 
-use crate::block::{Block, Columns};
+use crate::round::Block;
 use core::array::from_fn;
 
-/// A block: the AES round looks up in four tables.
-type B = Columns<4>;
-
 /// A row: a block for each lane.
-type Row = [B; 4];
+type Row = [Block; 4];
 
 const C0: [u8; 16] = [
     0x00, 0x01, 0x01, 0x02, 0x03, 0x05, 0x08, 0x0d, 0x15, 0x22, 0x37, 0x59, 0x90, 0xe9, 0x79, 0x62,
@@ -16,23 +13,23 @@ const C1: [u8; 16] = [
     0xdb, 0x3d, 0x18, 0x55, 0x6d, 0xc2, 0x2f, 0xf1, 0x20, 0x11, 0x31, 0x42, 0x73, 0xb5, 0x28, 0xdd,
 ];
 
-fn block(bytes: &[u8]) -> B {
-    B::load(bytes.first_chunk().unwrap())
+fn block(bytes: &[u8]) -> Block {
+    Block::load(bytes.first_chunk().unwrap())
 }
 
-fn zero() -> B {
-    B::load(&[0; 16])
+fn zero() -> Block {
+    Block::load(&[0; 16])
 }
 
 /// The block of two numbers.
-fn numbers(first: u64, second: u64) -> B {
+fn numbers(first: u64, second: u64) -> Block {
     let mut bytes = [0; 16];
     bytes[..8].copy_from_slice(&first.to_le_bytes());
     bytes[8..].copy_from_slice(&second.to_le_bytes());
-    B::load(&bytes)
+    Block::load(&bytes)
 }
 
-fn store(block: B, bytes: &mut [u8]) {
+fn store(block: Block, bytes: &mut [u8]) {
     block.store(bytes.first_chunk_mut().unwrap());
 }
 
@@ -162,7 +159,7 @@ impl Aegis {
     pub fn keystream(&self, bytes: &mut [u8]) {
         let (first, second) = bytes.split_at_mut(16 * self.lanes);
         for lane in 0..self.lanes {
-            let row: [B; 8] = from_fn(|row| self.rows[row][lane]);
+            let row: [Block; 8] = from_fn(|row| self.rows[row][lane]);
             let at = 16 * lane;
             if self.is_256 {
                 let sum = row[1].xor(row[4]).xor(row[5]);
@@ -191,7 +188,7 @@ impl Aegis {
     }
 
     /// The tag of one lane. A short one is the first block.
-    fn lane_tag(&self, lane: usize, is_long: bool) -> [B; 2] {
+    fn lane_tag(&self, lane: usize, is_long: bool) -> [Block; 2] {
         let sum = |rows: core::ops::Range<usize>| rows.fold(zero(), |sum, row| sum.xor(self.rows[row][lane]));
         match (self.is_256, is_long) {
             (true, false) => [sum(0..6), zero()],

@@ -5,15 +5,13 @@
 #![no_std]
 
 mod aegis;
-#[allow(dead_code)]
-#[path = "../bench/block.rs"]
-mod block;
 mod code;
 mod journals;
 mod message;
 mod messages;
 mod pages;
 mod records;
+mod round;
 mod slices;
 
 #[panic_handler]

@@ -1,6 +1,6 @@
 #!/bin/bash
-# measure_tool.sh LEVEL TOOL PIECES: measures the file tool beside sealing in memory, and beside other programs where they are
-# installed. Prints the rows of bench/TOOL.md for one level.
+# tool.sh LEVEL TOOL PIECES: measures the file tool beside encryption in memory, and beside other programs where they are
+# installed. Prints the times of each turn for table.py.
 set -euo pipefail
 level=$1 tool=$(realpath "$2") pieces=$(realpath "$3")
 folder=$(mktemp -d -p /dev/shm)
@@ -23,23 +23,15 @@ if command -v age > /dev/null; then
     commands+=("age -r $(age-keygen -o age-key 2>&1 | sed -n 's/.*ublic key: //p') -o new text")
 fi
 
-# Each turn runs every command once, and keeps its user, system and elapsed seconds.
-TIMEFORMAT='%U %S %R'
+# Each turn runs every command once.
 for _ in 1 2 3 4 5; do
     for index in "${!commands[@]}"; do
+        row="$level | ${names[index]}"
+        TIMEFORMAT="$row	User	%U	0
+$row	System	%S	0
+$row	Elapsed	%R	0"
         rm -f new
         # shellcheck disable=SC2086
-        { time taskset -c 1 ${commands[index]} > /dev/null 2>&1; } 2>> "times-$index"
+        { time taskset -c 1 ${commands[index]} > /dev/null 2>&1; } 2>&1
     done
-done
-
-# The run with the least user and system time.
-least() {
-    awk '{ print $1 + $2, $0 }' "times-$1" | sort -n | head -n 1 | cut -d ' ' -f 2-
-}
-
-read -r base _ < <(least 0)
-for index in "${!commands[@]}"; do
-    least "$index" | awk -v row="| $level | ${names[index]}" -v base="$base" \
-        '{ printf "%s | %.2f | %.2f | %.2f | %.2f |\n", row, $1, $2, $3, $1 / base }'
 done

@@ -1,12 +1,12 @@
-//! Measures `raf` in a file beside a plain file and AEGIS-256 in memory, and prints the lines of `bench/PAGES.md`.
+//! Measures `raf` in a file beside a plain file and AEGIS-256 in memory, and prints the time of each turn for `table.py`.
 //!
-//! Its argument is the path of a file, which it makes and removes. With `check` after it the text is a small one.
+//! Its argument is the path of a file, which it makes and removes. With `check` after it the contents are short.
 
 use hunkravy::aegis256::Aegis256 as Cipher;
 use hunkravy::raf::{Aegis256, Error, FileIo, NoJournal, Raf, RafBuilder, RafIo, RafRng, Result};
 use std::fs::{self, File};
 use std::os::unix::fs::FileExt;
-use std::time::{Duration, Instant};
+use std::time::Instant;
 
 const KEY: [u8; 32] = [7; 32];
 const PAGE_BYTES: usize = 4032;
@@ -79,105 +79,73 @@ impl Target for InMemory {
 
 /// How much is measured.
 struct Sizes {
-    /// Pages of the text that is written and read: a power of two.
+    /// Pages of the contents that are written and read: a power of two.
     pages: u64,
-    /// Bytes of the text whose commitment is read.
+    /// Bytes of the contents whose commitment is read.
     committed: u64,
 }
 
 /// The places of the pieces. An odd factor gives each of a power of two of places once.
 fn places(text_bytes: u64, piece_bytes: u64, is_random: bool) -> impl Iterator<Item = u64> {
-    let count = text_bytes / piece_bytes;
-    (0..count).map(move |number| {
-        let number = if is_random {
-            number * 0x9E37_79B1 % count
-        } else {
-            number
-        };
-        number * piece_bytes
-    })
+    let (count, factor) = (
+        text_bytes / piece_bytes,
+        if is_random { 0x9E37_79B1 } else { 1 },
+    );
+    (0..count).map(move |number| number * factor % count * piece_bytes)
 }
 
-fn timed(call: impl FnOnce() -> Result<()>) -> Result<Duration> {
+/// Prints the time of a turn for `table.py`.
+fn turn(row: &str, column: &str, bytes: u64, call: impl FnOnce() -> Result<()>) -> Result<()> {
     let start = Instant::now();
     call()?;
-    Ok(start.elapsed())
+    let seconds = start.elapsed().as_secs_f64();
+    println!("{row}\t{column}\t{seconds:.9}\t{bytes}");
+    Ok(())
 }
 
-fn megabytes_a_second(bytes: u64, time: Duration) -> u64 {
-    (bytes as f64 / 1e6 / time.as_secs_f64()) as u64
-}
-
-/// Writes and reads the text with each target in turns. Prints the best speeds, and the median of the turns' ratios to the last
-/// target.
+/// Writes and reads the contents with each target in turns.
 fn measure(
     targets: &mut [(&str, Box<dyn Target>)],
     sizes: &Sizes,
     &(words, piece_bytes, is_random): &(&str, usize, bool),
 ) -> Result<()> {
-    let text_bytes = sizes.pages * PAGE_BYTES as u64;
-    let places = || places(text_bytes, piece_bytes as u64, is_random);
+    let bytes = sizes.pages * PAGE_BYTES as u64;
+    let places = || places(bytes, piece_bytes as u64, is_random);
     let mut piece = vec![0x5a; piece_bytes];
-    let mut times = vec![[Vec::new(), Vec::new()]; targets.len()];
     for _ in 0..TURNS {
-        for ((_, target), [writing, reading]) in targets.iter_mut().zip(&mut times) {
-            writing.push(timed(|| {
+        for (name, target) in &mut *targets {
+            let row = format!("{name} | {words}");
+            turn(&row, "Writing", bytes, || {
                 places().try_for_each(|at| target.write(at, &mut piece))?;
                 target.finish()
-            })?);
-            reading.push(timed(|| {
+            })?;
+            turn(&row, "Reading", bytes, || {
                 places().try_for_each(|at| target.read(at, &mut piece))
-            })?);
+            })?;
         }
-    }
-    let [writing_base, reading_base] = &times[targets.len() - 1];
-    for ((name, _), [writing, reading]) in targets.iter().zip(&times) {
-        let [writing, reading] = [(writing, writing_base), (reading, reading_base)]
-            .map(|(times, base)| columns(text_bytes, times, base));
-        println!("| {name} | {words} | {writing} | {reading} |");
     }
     Ok(())
 }
 
-/// Returns the best speed of some turns, and the median of their ratios to other turns.
-fn columns(text_bytes: u64, times: &[Duration], base: &[Duration]) -> String {
-    let best = times
-        .iter()
-        .min()
-        .map_or(0, |time| megabytes_a_second(text_bytes, *time));
-    let mut ratios: Vec<_> = base
-        .iter()
-        .zip(times)
-        .map(|(base, time)| base.as_secs_f64() / time.as_secs_f64())
-        .collect();
-    ratios.sort_by(f64::total_cmp);
-    format!("{best} | {:.2}", ratios[ratios.len() / 2])
-}
-
-/// A file with no text, in place of one that is there.
+/// A file with no contents, in place of one that is there.
 fn new() -> RafBuilder<Aegis256> {
     RafBuilder::new().truncate(true)
 }
 
-/// Prints the speed of reading the commitment of a longer text.
+/// Reads the commitment of longer contents.
 fn measure_commitment(path: &str, sizes: &Sizes) -> Result<()> {
     let mut pages = new().create_file(path, &KEY)?;
     for end in (1..=64).map(|part| sizes.committed / 64 * part) {
         pages.truncate(end)?;
         pages.commit()?;
     }
+    let row = format!("the commitment | of {} MiB", sizes.committed >> 20);
     let mut commitment = [0; 32];
-    let time = timed(|| {
+    turn(&row, "Reading", sizes.committed, || {
         commitment = pages.commitment()?;
         Ok(())
     })?;
-    pages.verify(&commitment)?;
-    let reading = megabytes_a_second(sizes.committed, time);
-    println!(
-        "| the commitment | of {} MiB | | | {reading} | |",
-        sizes.committed >> 20
-    );
-    Ok(())
+    pages.verify(&commitment)
 }
 
 fn main() -> Result<()> {
@@ -196,9 +164,6 @@ fn main() -> Result<()> {
             committed: 1 << 30,
         }
     };
-    println!(
-        "| What | Order | Writing | Of memory | Reading | Of memory |\n|---|---|---:|---:|---:|---:|"
-    );
     let paths = ["no-journal", "plain"].map(|name| format!("{path}-{name}"));
     for order in &ORDERS {
         let pages = new().create_file(path, &KEY)?;
