@@ -1,5 +1,5 @@
 # The file tool, the example of batches, and their tests.
-.PHONY: install-tool check-tool tool-pages check-batches check-proved
+.PHONY: install-tool check-tool check-batches check-proved
 
 # ---- The file tool
 
@@ -53,10 +53,6 @@ check-tool: $(TOOL) $(OUT)/start
 check-tool-%:
 	cd tools/check_tool && TOOL="$(CURDIR)/$(TOOL)" START="$(CURDIR)/$(OUT)/start" CALLS_LIBRARY="$(CURDIR)/$(OUT)/calls.so" \
 		VERSION=$(VERSION) SHELL=/bin/sh python3 -B scene.py $*
-
-# Writes the manual page and the completions by what the program's help says. check-tool compares them with it.
-tool-pages: $(TOOL)
-	tools/tool_pages.py $< $(VERSION) $(TOOL_PAGES)
 
 # ---- Batches of writes
 

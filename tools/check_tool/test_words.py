@@ -21,10 +21,28 @@ class Words(Scene):
         os.symlink(TOOL, "\033[31m")
         self.tool(0, ["./\033[31m", "--help"], "Exit status", "\033")
 
+    def named_in_help(self, command, pattern):
+        self.tool(0, command)
+        return re.findall(pattern, self.said, re.M)
+
+    # The completions of a command have the options of its help, and the manual page has all commands and options.
     def test_manual_page_and_completions(self):
-        os.mkdir("made")
-        self.tool(0, [ROOT / "tools/tool_pages.py", TOOL, VERSION, "made"])
-        self.tool(0, ["diff", "-r", "made", MANUAL])
+        manual, *completions = [read(MANUAL / page).decode() for page in ("man", "bash", "zsh", "fish")]
+        manual = manual.replace("\\-", "-")
+        self.assertIn(f'"hunkravy {VERSION}"', manual)
+        commands = self.named_in_help("--help", r"^  ([a-z]+)  ")
+        self.assertIn("rekey", commands)
+        option = r"^ +(?:-\w, |    )--([a-z-]+)"
+        for name in {*self.named_in_help("--help", option), "version"}:
+            self.assertIn(rf"\fB--{name}\fR", manual)
+        for command in commands:
+            self.assertIn(rf"\fB{command}\fR", manual)
+            options = set(self.named_in_help(f"help {command}", option)) if command != "help" else set()
+            for name in options:
+                self.assertIn(rf"\fB--{name}\fR", manual)
+            for page, own, typed in zip(completions, (rf" +{command}\)", rf"{command}\)", rf".*from {command}'"), ("--", "--", "-l ")):
+                found = re.findall(rf"^{own} .*$", page, re.M)
+                self.assertEqual(set(re.findall(rf"{typed}([a-z-]+)", "\n".join(found))), options - {"help"}, (command, found))
 
     # Commands, options where a dash is typed, files elsewhere, but none for a number.
     def test_completions_of_bash(self):
