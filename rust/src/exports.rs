@@ -116,236 +116,99 @@ impl State {
             && (self.variant, self.role) == (0, 0)
     }
 
-    /// Overwrites the state with zeros. The compiler keeps the write even if nothing reads the state again.
+    /// Overwrites the state with zeros, as [`wipe`] does bytes.
     pub fn wipe(&mut self) {
-        // SAFETY: the pointer is that of an exclusive borrow of a state.
-        unsafe { core::ptr::write_volatile(self, Self::ENDED) }
+        // SAFETY: the pointer is that of an exclusive borrow of a struct of numbers.
+        unsafe { hunkravy_wipe((&raw mut *self).cast(), size_of::<Self>()) }
     }
 }
 
 type In = *const u8;
 type Out = *mut u8;
 
-// Each pointer is followed by its length.
-unsafe extern "C" {
-    fn hunkravy_encrypt_in_place(
-        variant: u32,
-        mc: Out,
-        mclen: usize,
-        ad: In,
-        adlen: usize,
-        npub: In,
-        npublen: usize,
-        k: In,
-        klen: usize,
-        mac: Out,
-        maclen: usize,
-    ) -> i32;
-    fn hunkravy_decrypt_in_place(
-        variant: u32,
-        mc: Out,
-        mclen: usize,
-        ad: In,
-        adlen: usize,
-        npub: In,
-        npublen: usize,
-        k: In,
-        klen: usize,
-        mac: In,
-        maclen: usize,
-    ) -> i32;
-    fn hunkravy_stream(
-        variant: u32,
-        out: Out,
-        len: usize,
-        npub: In,
-        npublen: usize,
-        k: In,
-        klen: usize,
-    ) -> i32;
-    fn hunkravy_stream_xor_in_place(
-        variant: u32,
-        mc: Out,
-        mclen: usize,
-        npub: In,
-        npublen: usize,
-        k: In,
-        klen: usize,
-    ) -> i32;
-    fn hunkravy_mac(
-        variant: u32,
-        input: In,
-        inputlen: usize,
-        npub: In,
-        npublen: usize,
-        k: In,
-        klen: usize,
-        mac: Out,
-        maclen: usize,
-    ) -> i32;
-    fn hunkravy_mac_verify(
-        variant: u32,
-        input: In,
-        inputlen: usize,
-        npub: In,
-        npublen: usize,
-        k: In,
-        klen: usize,
-        mac: In,
-        maclen: usize,
-    ) -> i32;
-    fn hunkravy_state_init(
-        variant: u32,
-        st: &mut State,
-        ad: In,
-        adlen: usize,
-        npub: In,
-        npublen: usize,
-        k: In,
-        klen: usize,
-    ) -> i32;
-    fn hunkravy_state_encrypt_in_place(st: &mut State, mc: Out, mclen: usize) -> i32;
-    fn hunkravy_state_encrypt_final(st: &mut State, mac: Out, maclen: usize) -> i32;
-    fn hunkravy_state_decrypt_in_place_unverified(st: &mut State, mc: Out, mclen: usize) -> i32;
-    fn hunkravy_state_decrypt_check(st: &mut State, c: In, clen: usize) -> i32;
-    fn hunkravy_state_decrypt_final(
-        st: &mut State,
-        m: Out,
-        mlen: usize,
-        mac: In,
-        maclen: usize,
-    ) -> i32;
-    fn hunkravy_mac_init(
-        variant: u32,
-        st: &mut State,
-        npub: In,
-        npublen: usize,
-        k: In,
-        klen: usize,
-    ) -> i32;
-    fn hunkravy_mac_update(st: &mut State, input: In, inputlen: usize) -> i32;
-    fn hunkravy_mac_final(st: &State, mac: Out, maclen: usize) -> i32;
-    fn hunkravy_mac_final_verify(st: &State, mac: In, maclen: usize) -> i32;
-    fn hunkravy_page_seal(
-        variant: u32,
-        page: Out,
-        pagelen: usize,
-        id: &[u8; 24],
-        number: u64,
-        npub: In,
-        npublen: usize,
-        k: In,
-        klen: usize,
-    ) -> i32;
-    fn hunkravy_page_open(
-        variant: u32,
-        page: Out,
-        pagelen: usize,
-        id: &[u8; 24],
-        number: u64,
-        k: In,
-        klen: usize,
-    ) -> i32;
-    fn hunkravy_page_header_seal(
-        variant: u32,
-        header_block: &mut [u8; 512],
-        page_size: u32,
-        id: &[u8; 24],
-        counter: u64,
-        contentslen: u64,
-        npub: In,
-        npublen: usize,
-        k: In,
-        klen: usize,
-    ) -> i32;
-    fn hunkravy_page_header_open(
-        variant: u32,
-        header_block: &[u8; 512],
-        k: In,
-        klen: usize,
-        page_size: &mut u32,
-        id: &mut [u8; 24],
-        counter: &mut u64,
-        contentslen: &mut u64,
-    ) -> i32;
-    fn hunkravy_journal_init(
-        variant: u32,
-        st: &mut State,
-        page_size: u32,
-        id: &[u8; 24],
-        npub: &[u8; JOURNAL_NONCE_BYTES],
-        k: In,
-        klen: usize,
-        start: &mut [u8; JOURNAL_START_BYTES],
-    ) -> i32;
-    fn hunkravy_journal_entry(
-        st: &mut State,
-        place: u64,
-        bytes: In,
-        byteslen: usize,
-        head: &mut [u8; JOURNAL_HEAD_BYTES],
-    ) -> i32;
-    fn hunkravy_journal_final(st: &mut State, mac: &mut [u8; JOURNAL_MAC_BYTES]) -> i32;
-    fn hunkravy_journal_check(
-        variant: u32,
-        file: In,
-        filelen: usize,
-        k: In,
-        klen: usize,
-        journal: In,
-        journallen: usize,
-        writeslen: &mut usize,
-    ) -> i32;
-    fn hunkravy_journal_next(
-        writes: In,
-        writeslen: usize,
-        place: &mut u64,
-        byteslen: &mut usize,
-    ) -> i32;
-    fn hunkravy_record_begin(
-        st: &mut Records<'_>,
-        k: &[u8; 32],
-        prefix: &[u8; 24],
-        context: In,
-        contextlen: usize,
-        header: &mut [u8; 4],
-    ) -> i32;
-    fn hunkravy_record_begin_open(
-        st: &mut Records<'_>,
-        k: &[u8; 32],
-        prefix: &[u8; 24],
-        context: In,
-        contextlen: usize,
-        header: &[u8; 4],
-    ) -> i32;
-    fn hunkravy_record_begin_open_at(
-        st: &mut Records<'_>,
-        k: &[u8; 32],
-        prefix: &[u8; 24],
-        context: In,
-        contextlen: usize,
-        number: u64,
-        before: u64,
-    ) -> i32;
-    fn hunkravy_record_seal(st: &mut Records<'_>, record: Out, mlen: usize) -> i32;
-    fn hunkravy_record_seal_last(st: &mut Records<'_>, record: Out, mlen: usize) -> i32;
-    fn hunkravy_record_len(st: &Records<'_>, head: &[u8; 5], recordlen: &mut usize) -> i32;
-    fn hunkravy_record_open(
-        st: &mut Records<'_>,
-        record: Out,
-        recordlen: usize,
-        mlen: &mut usize,
-        is_last: &mut i32,
-    ) -> i32;
+/// Declares the library's functions by the types of their arguments. Each pointer is followed by its length.
+macro_rules! exports {
+    ($($name:ident($($argument:ty),*);)*) => {
+        unsafe extern "C" {
+            $(fn $name($(_: $argument),*) -> i32;)*
+        }
+    };
 }
 
-/// Makes a call: on a number or a state, if it has one, and on the pointer and the length of each slice.
+exports! {
+    hunkravy_encrypt_in_place(u32, Out, usize, In, usize, In, usize, In, usize, Out, usize);
+    hunkravy_decrypt_in_place(u32, Out, usize, In, usize, In, usize, In, usize, In, usize);
+    hunkravy_stream(u32, Out, usize, In, usize, In, usize);
+    hunkravy_stream_xor_in_place(u32, Out, usize, In, usize, In, usize);
+    hunkravy_mac(u32, In, usize, In, usize, In, usize, Out, usize);
+    hunkravy_mac_verify(u32, In, usize, In, usize, In, usize, In, usize);
+    hunkravy_state_init(u32, &mut State, In, usize, In, usize, In, usize);
+    hunkravy_state_encrypt_in_place(&mut State, Out, usize);
+    hunkravy_state_encrypt_final(&mut State, Out, usize);
+    hunkravy_state_decrypt_in_place_unverified(&mut State, Out, usize);
+    hunkravy_state_decrypt_check(&mut State, In, usize);
+    hunkravy_state_decrypt_final(&mut State, Out, usize, In, usize);
+    hunkravy_mac_init(u32, &mut State, In, usize, In, usize);
+    hunkravy_mac_update(&mut State, In, usize);
+    hunkravy_mac_final(&State, Out, usize);
+    hunkravy_mac_final_verify(&State, In, usize);
+    hunkravy_page_seal(u32, Out, usize, &[u8; 24], u64, In, usize, In, usize);
+    hunkravy_page_open(u32, Out, usize, &[u8; 24], u64, In, usize);
+    hunkravy_page_header_seal(u32, &mut [u8; 512], u32, &[u8; 24], u64, u64, In, usize, In, usize);
+    hunkravy_page_header_open(u32, &[u8; 512], In, usize, &mut u32, &mut [u8; 24], &mut u64, &mut u64);
+    hunkravy_journal_init(u32, &mut State, u32, &[u8; 24], &[u8; 16], In, usize, &mut [u8; 528]);
+    hunkravy_journal_entry(&mut State, u64, In, usize, &mut [u8; 16]);
+    hunkravy_journal_final(&mut State, &mut [u8; 32]);
+    hunkravy_journal_check(u32, In, usize, In, usize, In, usize, &mut usize);
+    hunkravy_journal_next(In, usize, &mut u64, &mut usize);
+    hunkravy_record_begin(&mut Records<'_>, &[u8; 32], &[u8; 24], In, usize, &mut [u8; 4]);
+    hunkravy_record_begin_open(&mut Records<'_>, &[u8; 32], &[u8; 24], In, usize, &[u8; 4]);
+    hunkravy_record_begin_open_at(&mut Records<'_>, &[u8; 32], &[u8; 24], In, usize, u64, u64);
+    hunkravy_record_seal(&mut Records<'_>, Out, usize);
+    hunkravy_record_seal_last(&mut Records<'_>, Out, usize);
+    hunkravy_record_len(&Records<'_>, &[u8; 5], &mut usize);
+    hunkravy_record_open(&mut Records<'_>, Out, usize, &mut usize, &mut i32);
+}
+
+unsafe extern "C" {
+    fn hunkravy_wipe(bytes: Out, length: usize);
+}
+
+/// Overwrites the bytes with zeros. The compiler cannot leave that out.
+pub fn wipe(bytes: &mut [u8]) {
+    // SAFETY: the pointer is that of a slice of this length, which is borrowed exclusively.
+    unsafe { hunkravy_wipe(bytes.as_mut_ptr(), bytes.len()) }
+}
+
+/// A slice as the library takes it.
+trait Bytes {
+    type Pointer;
+    fn parts(self) -> (Self::Pointer, usize);
+}
+
+impl Bytes for &[u8] {
+    type Pointer = In;
+    fn parts(self) -> (In, usize) {
+        (self.as_ptr(), self.len())
+    }
+}
+
+impl Bytes for &mut [u8] {
+    type Pointer = Out;
+    fn parts(self) -> (Out, usize) {
+        (self.as_mut_ptr(), self.len())
+    }
+}
+
+/// Makes a call: on values, then on slices, and then on values again.
 macro_rules! call {
-    ($export:ident($($first:expr),*) $(, $bytes:ident.$pointer:ident)*) => {
-        // SAFETY: each pointer is that of a borrowed slice of the length after it, and one that is written to is borrowed
-        // exclusively. A state is a struct of numbers and bytes, of which the library takes any.
-        read(unsafe { $export($($first,)* $($bytes.$pointer(), $bytes.len()),*) })
-    };
+    ($export:ident($($first:expr),*) $(, $bytes:ident)* $(; $($last:expr),*)?) => {{
+        $(let $bytes = $bytes.parts();)*
+        // SAFETY: each pointer is that of a borrowed slice of the length after it, or of a borrowed value of the length that the
+        // library reads or writes. What is written to is borrowed exclusively. A state is a struct of numbers and bytes, of
+        // which the library takes any; a stream borrows its context for as long as it points to it.
+        read(unsafe { $export($($first,)* $($bytes.0, $bytes.1,)* $($($last),*)?) })
+    }};
 }
 
 /// A variant, by its number in the library.
@@ -369,14 +232,7 @@ impl Variant {
         k: &[u8],
         mac: &mut [u8],
     ) -> Answer {
-        call!(
-            hunkravy_encrypt_in_place(self.number),
-            mc.as_mut_ptr,
-            ad.as_ptr,
-            npub.as_ptr,
-            k.as_ptr,
-            mac.as_mut_ptr
-        )
+        call!(hunkravy_encrypt_in_place(self.number), mc, ad, npub, k, mac)
     }
 
     /// Turns the ciphertext at `mc` into its message, if `mac` is the tag of that message.
@@ -388,117 +244,80 @@ impl Variant {
         k: &[u8],
         mac: &[u8],
     ) -> Answer {
-        call!(
-            hunkravy_decrypt_in_place(self.number),
-            mc.as_mut_ptr,
-            ad.as_ptr,
-            npub.as_ptr,
-            k.as_ptr,
-            mac.as_ptr
-        )
+        call!(hunkravy_decrypt_in_place(self.number), mc, ad, npub, k, mac)
     }
 
     /// Overwrites `out` with keystream.
     pub fn stream(&self, out: &mut [u8], npub: &[u8], k: &[u8]) -> Answer {
-        call!(
-            hunkravy_stream(self.number),
-            out.as_mut_ptr,
-            npub.as_ptr,
-            k.as_ptr
-        )
+        call!(hunkravy_stream(self.number), out, npub, k)
     }
 
     /// Xors the bytes at `mc` with keystream.
     pub fn stream_xor_in_place(&self, mc: &mut [u8], npub: &[u8], k: &[u8]) -> Answer {
-        call!(
-            hunkravy_stream_xor_in_place(self.number),
-            mc.as_mut_ptr,
-            npub.as_ptr,
-            k.as_ptr
-        )
+        call!(hunkravy_stream_xor_in_place(self.number), mc, npub, k)
     }
 
     /// Writes the MAC of `input` to `mac`. Use a zeroed nonce if there is none.
     pub fn mac(&self, input: &[u8], npub: &[u8], k: &[u8], mac: &mut [u8]) -> Answer {
-        call!(
-            hunkravy_mac(self.number),
-            input.as_ptr,
-            npub.as_ptr,
-            k.as_ptr,
-            mac.as_mut_ptr
-        )
+        call!(hunkravy_mac(self.number), input, npub, k, mac)
     }
 
     /// `Ok` exactly if `mac` is that MAC.
     pub fn mac_verify(&self, input: &[u8], npub: &[u8], k: &[u8], mac: &[u8]) -> Answer {
-        call!(
-            hunkravy_mac_verify(self.number),
-            input.as_ptr,
-            npub.as_ptr,
-            k.as_ptr,
-            mac.as_ptr
-        )
+        call!(hunkravy_mac_verify(self.number), input, npub, k, mac)
     }
 
     /// Begins a message. After an error the state is [`State::ENDED`].
     pub fn state_init(&self, st: &mut State, ad: &[u8], npub: &[u8], k: &[u8]) -> Answer {
-        call!(
-            hunkravy_state_init(self.number, st),
-            ad.as_ptr,
-            npub.as_ptr,
-            k.as_ptr
-        )
+        call!(hunkravy_state_init(self.number, st), ad, npub, k)
     }
 
     /// Begins a MAC. After an error the state is [`State::ENDED`].
     pub fn mac_init(&self, st: &mut State, npub: &[u8], k: &[u8]) -> Answer {
-        call!(hunkravy_mac_init(self.number, st), npub.as_ptr, k.as_ptr)
+        call!(hunkravy_mac_init(self.number, st), npub, k)
     }
 }
 
 impl State {
     /// Turns the next bytes of the message into as many of its ciphertext.
     pub fn encrypt_in_place(&mut self, mc: &mut [u8]) -> Answer {
-        call!(hunkravy_state_encrypt_in_place(self), mc.as_mut_ptr)
+        call!(hunkravy_state_encrypt_in_place(self), mc)
     }
 
     /// Writes the tag of the message to `mac`, and ends the state.
     pub fn encrypt_final(&mut self, mac: &mut [u8]) -> Answer {
-        call!(hunkravy_state_encrypt_final(self), mac.as_mut_ptr)
+        call!(hunkravy_state_encrypt_final(self), mac)
     }
 
     /// Decrypts the next bytes of the ciphertext. They are not verified.
     pub fn decrypt_in_place_unverified(&mut self, mc: &mut [u8]) -> Answer {
-        call!(
-            hunkravy_state_decrypt_in_place_unverified(self),
-            mc.as_mut_ptr
-        )
+        call!(hunkravy_state_decrypt_in_place_unverified(self), mc)
     }
 
     /// Takes in the next bytes of the ciphertext, and writes nothing.
     pub fn decrypt_check(&mut self, c: &[u8]) -> Answer {
-        call!(hunkravy_state_decrypt_check(self), c.as_ptr)
+        call!(hunkravy_state_decrypt_check(self), c)
     }
 
     /// `Ok` exactly if `mac` is the tag of the message. Otherwise every byte at `m` is [`ERASED`]. Ends the state. `m` is the
     /// whole message, or has no byte.
     pub fn decrypt_final(&mut self, m: &mut [u8], mac: &[u8]) -> Answer {
-        call!(hunkravy_state_decrypt_final(self), m.as_mut_ptr, mac.as_ptr)
+        call!(hunkravy_state_decrypt_final(self), m, mac)
     }
 
     /// Takes in the next bytes of the input of a MAC.
     pub fn mac_update(&mut self, input: &[u8]) -> Answer {
-        call!(hunkravy_mac_update(self), input.as_ptr)
+        call!(hunkravy_mac_update(self), input)
     }
 
     /// Writes the MAC of the input so far to `mac`. The state stays.
     pub fn mac_final(&self, mac: &mut [u8]) -> Answer {
-        call!(hunkravy_mac_final(self), mac.as_mut_ptr)
+        call!(hunkravy_mac_final(self), mac)
     }
 
     /// `Ok` exactly if `mac` is the MAC of the input so far. The state stays.
     pub fn mac_final_verify(&self, mac: &[u8]) -> Answer {
-        call!(hunkravy_mac_final_verify(self), mac.as_ptr)
+        call!(hunkravy_mac_final_verify(self), mac)
     }
 }
 
@@ -526,21 +345,18 @@ impl Variant {
         npub: &[u8],
         k: &[u8],
     ) -> Answer {
-        let (bytes, length) = (page.as_mut_ptr(), page.len());
+        let (page, length) = page.parts();
         call!(
-            hunkravy_page_seal(self.number, bytes, length, id, number),
-            npub.as_ptr,
-            k.as_ptr
+            hunkravy_page_seal(self.number, page, length, id, number),
+            npub,
+            k
         )
     }
 
     /// Opens page `number` of a random-access file. If it is not that page, each of its bytes is [`ERASED`].
     pub fn page_open(&self, page: &mut [u8], id: &[u8; 24], number: u64, k: &[u8]) -> Answer {
-        let (bytes, length) = (page.as_mut_ptr(), page.len());
-        call!(
-            hunkravy_page_open(self.number, bytes, length, id, number),
-            k.as_ptr
-        )
+        let (bytes, length) = k.parts();
+        call!(hunkravy_page_open(self.number), page; id, number, bytes, length)
     }
 
     /// Writes a header block.
@@ -551,23 +367,11 @@ impl Variant {
         npub: &[u8],
         k: &[u8],
     ) -> Answer {
-        let PageHeader {
-            page_size,
-            ref id,
-            counter,
-            contents_len,
-        } = *header;
+        let (size, counter, length) = (header.page_size, header.counter, header.contents_len);
         call!(
-            hunkravy_page_header_seal(
-                self.number,
-                header_block,
-                page_size,
-                id,
-                counter,
-                contents_len
-            ),
-            npub.as_ptr,
-            k.as_ptr
+            hunkravy_page_header_seal(self.number, header_block, size, &header.id, counter, length),
+            npub,
+            k
         )
     }
 
@@ -578,25 +382,10 @@ impl Variant {
         k: &[u8],
     ) -> Result<PageHeader, Refusal> {
         let mut header = PageHeader::default();
-        let PageHeader {
-            page_size,
-            id,
-            counter,
-            contents_len,
-        } = &mut header;
-        // SAFETY: each pointer is that of a borrowed value of the length that the library reads or writes.
-        read(unsafe {
-            hunkravy_page_header_open(
-                self.number,
-                header_block,
-                k.as_ptr(),
-                k.len(),
-                page_size,
-                id,
-                counter,
-                contents_len,
-            )
-        })?;
+        call!(
+            hunkravy_page_header_open(self.number, header_block), k;
+            &mut header.page_size, &mut header.id, &mut header.counter, &mut header.contents_len
+        )?;
         Ok(header)
     }
 }
@@ -623,17 +412,7 @@ impl Variant {
         k: &[u8],
         start: &mut [u8; JOURNAL_START_BYTES],
     ) -> Answer {
-        let (bytes, length) = (k.as_ptr(), k.len());
-        call!(hunkravy_journal_init(
-            self.number,
-            st,
-            page_size,
-            id,
-            npub,
-            bytes,
-            length,
-            start
-        ))
+        call!(hunkravy_journal_init(self.number, st, page_size, id, npub), k; start)
     }
 
     /// Returns the part of a journal that has writes which are to be made again, or no bytes. After them the journal is to
@@ -648,20 +427,8 @@ impl Variant {
         journal: &'j [u8],
     ) -> Result<&'j [u8], Refusal> {
         let mut writes_len = 0;
-        // SAFETY: each pointer is that of a borrowed slice of the length after it.
-        read(unsafe {
-            hunkravy_journal_check(
-                self.number,
-                file.as_ptr(),
-                file.len(),
-                k.as_ptr(),
-                k.len(),
-                journal.as_ptr(),
-                journal.len(),
-                &mut writes_len,
-            )
-        })?;
         let writes = journal.get(JOURNAL_START_BYTES..);
+        call!(hunkravy_journal_check(self.number), file, k, journal; &mut writes_len)?;
         Ok(writes.map_or(&[], |writes| &writes[..writes_len]))
     }
 }
@@ -674,10 +441,7 @@ impl State {
         bytes: &[u8],
     ) -> Result<[u8; JOURNAL_HEAD_BYTES], Refusal> {
         let mut head = [0; JOURNAL_HEAD_BYTES];
-        let (pointer, length) = (bytes.as_ptr(), bytes.len());
-        call!(hunkravy_journal_entry(
-            self, place, pointer, length, &mut head
-        ))?;
+        call!(hunkravy_journal_entry(self, place), bytes; &mut head)?;
         Ok(head)
     }
 
@@ -691,8 +455,7 @@ impl State {
 /// [`JOURNAL_HEAD_BYTES`], and the next write comes after them.
 pub fn journal_next(writes: &[u8]) -> Result<(u64, usize), Refusal> {
     let (mut place, mut length) = (0, 0);
-    // SAFETY: the pointer is that of a borrowed slice of the length after it.
-    read(unsafe { hunkravy_journal_next(writes.as_ptr(), writes.len(), &mut place, &mut length) })?;
+    call!(hunkravy_journal_next(), writes; &mut place, &mut length)?;
     Ok((place, length))
 }
 
@@ -734,10 +497,7 @@ impl<'c> Records<'c> {
         context: &'c [u8],
     ) -> Result<(Self, [u8; 4]), Refusal> {
         let (mut st, mut header) = (Self::ENDED, [0; 4]);
-        let (bytes, length) = (context.as_ptr(), context.len());
-        // SAFETY: each pointer is that of a borrowed value of the length that the library reads or writes. The context is
-        // borrowed for as long as the stream points to it.
-        read(unsafe { hunkravy_record_begin(&mut st, k, prefix, bytes, length, &mut header) })?;
+        call!(hunkravy_record_begin(&mut st, k, prefix), context; &mut header)?;
         Ok((st, header))
     }
 
@@ -749,9 +509,7 @@ impl<'c> Records<'c> {
         header: &[u8; 4],
     ) -> Result<Self, Refusal> {
         let mut st = Self::ENDED;
-        let (bytes, length) = (context.as_ptr(), context.len());
-        // SAFETY: as above.
-        read(unsafe { hunkravy_record_begin_open(&mut st, k, prefix, bytes, length, header) })?;
+        call!(hunkravy_record_begin_open(&mut st, k, prefix), context; header)?;
         Ok(st)
     }
 
@@ -764,11 +522,7 @@ impl<'c> Records<'c> {
         before: u64,
     ) -> Result<Self, Refusal> {
         let mut st = Self::ENDED;
-        let (bytes, length) = (context.as_ptr(), context.len());
-        // SAFETY: as above.
-        read(unsafe {
-            hunkravy_record_begin_open_at(&mut st, k, prefix, bytes, length, number, before)
-        })?;
+        call!(hunkravy_record_begin_open_at(&mut st, k, prefix), context; number, before)?;
         Ok(st)
     }
 
@@ -784,22 +538,18 @@ impl<'c> Records<'c> {
         let Some(message_len) = record.len().checked_sub(RECORD_BYTES) else {
             return Err(Refusal::WrongRecordLength);
         };
-        let bytes = record.as_mut_ptr();
-        // SAFETY: the pointer is that of a slice, borrowed exclusively, which has the bytes of a record of this message.
-        read(unsafe {
-            if is_last {
-                hunkravy_record_seal_last(self, bytes, message_len)
-            } else {
-                hunkravy_record_seal(self, bytes, message_len)
-            }
-        })
+        let (bytes, _) = record.parts();
+        if is_last {
+            call!(hunkravy_record_seal_last(self, bytes, message_len))
+        } else {
+            call!(hunkravy_record_seal(self, bytes, message_len))
+        }
     }
 
     /// Returns the length of the next record in bytes, from its head. The length is not verified.
     pub fn record_len(&self, head: &[u8; RECORD_HEAD_BYTES]) -> Result<usize, Refusal> {
         let mut length = 0;
-        // SAFETY: each pointer is that of a borrowed value of the length that the library reads or writes.
-        read(unsafe { hunkravy_record_len(self, head, &mut length) })?;
+        call!(hunkravy_record_len(self, head, &mut length))?;
         Ok(length)
     }
 
@@ -807,17 +557,15 @@ impl<'c> Records<'c> {
     /// next record, each of them is [`ERASED`].
     pub fn open(&mut self, record: &mut [u8]) -> Result<bool, Refusal> {
         let (mut message_len, mut is_last) = (0, 0);
-        let (bytes, length) = (record.as_mut_ptr(), record.len());
-        // SAFETY: the pointer is that of a slice of this length, which is borrowed exclusively.
-        read(unsafe { hunkravy_record_open(self, bytes, length, &mut message_len, &mut is_last) })?;
+        call!(hunkravy_record_open(self), record; &mut message_len, &mut is_last)?;
         Ok(is_last == 1)
     }
 }
 
 impl Drop for Records<'_> {
     fn drop(&mut self) {
-        // SAFETY: the pointer is that of an exclusive borrow of an array.
-        unsafe { core::ptr::write_volatile(&mut self.opaque, [0; OPAQUE_WORDS]) }
+        // SAFETY: the pointer is that of an exclusive borrow of an array of numbers.
+        unsafe { hunkravy_wipe((&raw mut self.opaque).cast(), size_of_val(&self.opaque)) }
     }
 }
 

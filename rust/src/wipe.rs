@@ -1,18 +1,6 @@
 //! Overwriting what must not be left in memory.
 
-/// Overwrites the bytes with zeros. The compiler keeps the writes even if nothing reads the bytes again.
-pub(crate) fn wipe(bytes: &mut [u8]) {
-    // SAFETY: each bit pattern is a word.
-    let (first, words, last) = unsafe { bytes.align_to_mut::<u64>() };
-    for word in words {
-        // SAFETY: the pointer is that of an exclusive borrow of a word.
-        unsafe { core::ptr::write_volatile(word, 0) }
-    }
-    for byte in first.iter_mut().chain(last) {
-        // SAFETY: the pointer is that of an exclusive borrow of a byte.
-        unsafe { core::ptr::write_volatile(byte, 0) }
-    }
-}
+pub(crate) use crate::exports::wipe;
 
 /// Bytes that are overwritten when they are dropped. A vector must not have grown: what it was copied from is not overwritten.
 #[cfg(feature = "std")]

@@ -1,6 +1,6 @@
-//! The sample on a source of random bytes of the page of the crate `aegis`, under its name.
+//! The samples of the page of the crate `aegis` that take no random bytes of the system, under its name.
 
-pub fn a_source_of_random_bytes() {
+pub fn a_source_of_random_bytes(path: &std::path::Path) {
     use aegis::raf::{Aegis128L, FileIo, RafBuilder};
 
     struct MyRng;
@@ -12,14 +12,14 @@ pub fn a_source_of_random_bytes() {
         }
     }
 
-    let io = FileIo::create("data.raf").unwrap();
+    let io = FileIo::create(path).unwrap();
     let key = [0u8; 16];
     let mut f = RafBuilder::<Aegis128L>::with_rng(MyRng)
         .chunk_size(4096)
         .truncate(true)
         .create(io, &key)
         .unwrap();
-    f.write(b"hello", 0).unwrap();
+    assert_eq!(f.write(b"hello", 0).unwrap(), 5);
 }
 
 pub fn keys() {
@@ -31,13 +31,13 @@ pub fn keys() {
     let _key = derive_key(&master_key, b"my-app/files").unwrap();
 }
 
-pub fn a_probe() {
+pub fn a_probe(path: &std::path::Path) -> String {
     use aegis::raf::{self, FileIo};
 
-    let mut io = FileIo::open("data.raf").unwrap();
+    let mut io = FileIo::open(path).unwrap();
     let info = raf::probe(&mut io).unwrap();
-    println!(
+    format!(
         "algorithm: {:?}, chunk_size: {}, file_size: {}",
         info.algorithm, info.chunk_size, info.file_size
-    );
+    )
 }

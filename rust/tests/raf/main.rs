@@ -1,6 +1,8 @@
 //! Files that are read and written at any place: beside a vector that holds the same text, after crashes, errors and damage,
 //! at paths, and as programs are written for the crate `aegis`.
 
+extern crate hunkravy as aegis;
+
 mod attacks;
 mod batches;
 mod calls;
