@@ -83,10 +83,12 @@ check-sanitized: export ASAN_OPTIONS = detect_leaks=$(if $(filter aarch64,$(FOLD
 
 # Each header compiles alone, by each standard of C and C++, and without a warning; and so does what is compiled here.
 CLANG = $(shell command -v clang)
+STANDARDS = c99 c11 c17 c2x $(if $(shell command -v g++),c++11 c++14 c++17 c++20)
 
 check-header:
+	$(if $(findstring c++,$(STANDARDS)),,echo 'left out: the headers as C++, since g++ is not installed')
 	for header in $(HEADERS); do for compiler in $(CC) $(CLANG); do \
-		for standard in c99 c11 c17 c2x c++11 c++14 c++17 c++20; do \
+		for standard in $(STANDARDS); do \
 			case $$standard in c++*) language=c++ ;; *) language=c ;; esac; \
 			echo "#include \"$$header\"" | \
 				$$compiler -std=$$standard $(C_FLAGS) -fsyntax-only -x $$language - || exit 1; \
@@ -227,7 +229,9 @@ SHARED = $(OUT)/$(FOLDER)/$(SONAME)
 install: $(LIBRARY) $(SHARED)
 	install -d "$(DESTDIR)$(PREFIX)/include" "$(DESTDIR)$(LIBRARIES)/pkgconfig" "$(DESTDIR)$(EXAMPLES_FOLDER)"
 	install -m 644 $(HEADERS:%=c/include/%) "$(DESTDIR)$(PREFIX)/include"
-	install -m 644 $(LIBRARY) $(SHARED) "$(DESTDIR)$(LIBRARIES)"
+	install -m 644 $(LIBRARY) "$(DESTDIR)$(LIBRARIES)"
+	install -m 644 $(SHARED) "$(DESTDIR)$(LIBRARIES)/libhunkravy.so.$(VERSION)"
+	ln -sf libhunkravy.so.$(VERSION) "$(DESTDIR)$(LIBRARIES)/$(SONAME)"
 	ln -sf $(SONAME) "$(DESTDIR)$(LIBRARIES)/libhunkravy.so"
 	install -m 644 $(C_EXAMPLES:%=c/examples/%.c) "$(DESTDIR)$(EXAMPLES_FOLDER)"
 	prefix=$$(realpath -m --relative-to="$(DESTDIR)$(LIBRARIES)/pkgconfig" "$(DESTDIR)$(PREFIX)/") && \

@@ -23,39 +23,54 @@ line=$(if python3 tools/proved.py check 2> /dev/null; then cat out/proved-line; 
 (cd "$copy" && touch -c "$out"/*/* && SOURCE_DATE_EPOCH=$epoch COMMIT=$commit GATE_LINE=$line tools/pack.sh "$version" "$out") |
     diff "$dist/SHA256SUMS" -
 
-# The mode, the owner and the name of each entry of what was packed.
+# The name of each file that tar lists, with a star if it is a program, or with the target of a link. All belong to root, and
+# others may read them.
 entries() {
-    awk '{ print $1, $2, $6 ($7 ? " " $7 " " $8 : "") }'
+    sed 's|^\(.*[ ]\)\./|\1|' | awk '$1 !~ /^(.rwxr-xr-x|-rw-r--r--|lrwxrwxrwx)$/ || $2 !~ /^(0\/0|root\/root)$/ { print "wrong:", $0 }
+        !/^d/ { print $6 ($1 ~ /^-rwx/ ? "*" : "") ($7 ? " " $7 " " $8 : "") }'
 }
 # contents MACHINE ARCHITECTURE: those of the packages for a processor, by its name and by Debian's.
 contents() {
     for archive in *"$1"*.tar.gz; do
         echo "== $archive"
-        tar --numeric-owner -tvzf "$archive" | entries
+        tar --numeric-owner -tvzf "$archive" | entries | sed "s|^${archive%.tar.gz}/||"
     done
     for package in *_"$2".deb; do
         echo "== $package"
         dpkg-deb -c "$package" | entries
-        dpkg-deb -f "$package" Package Version Architecture Multi-Arch Depends Section | sed 's/^/   /'
+        dpkg-deb -f "$package" Package Version Architecture Multi-Arch Depends Section
     done
     for wheel in *"$1".whl; do
         echo "== $wheel"
         python3 -c 'import sys, zipfile
-for entry in zipfile.ZipFile(sys.argv[1]).infolist(): print(oct(entry.external_attr >> 16), entry.filename)' "$wheel"
+for entry in zipfile.ZipFile(sys.argv[1]).infolist():
+    print(entry.filename + {0o644: "", 0o755: "*"}[entry.external_attr >> 16 & 0o777])' "$wheel"
     done
 }
-# What dist/contents.txt lists, for ARM: the same without the tool.
+# What dist/contents.txt lists, for x86-64 and for ARM: the same without the tool. A line with two folders stands for the files
+# that git has in the second one, in the first one.
+listed() {
+    while read -r line; do
+        case $line in
+        *'/ '*) git ls-files "${line#* }" | sed "s|^${line#* }|${line% *}|" ;;
+        *) echo "$line" ;;
+        esac
+    done < dist/contents.txt
+}
 for_arm() {
-    awk '/^== / { is_of_tool = /hunkravy_/ } !is_of_tool && !/\/bin\/|\/lib\/hunkravy\/|share\/(bash|fish|man|zsh)/' |
+    listed | awk '/^== / { is_of_tool = /hunkravy_/ } !is_of_tool && !/^bin\/|lib\/hunkravy\/|share\/(bash|fish|man|zsh)/' |
         sed 's/x86_64/aarch64/g; s/amd64/arm64/g'
 }
-# lists FILTER MACHINE ARCHITECTURE: whether the list, filtered so, has the packages for a processor.
-lists() {
-    (cd "$dist" && contents "$2" "$3") | sed "s/$version/VERSION/g" > "$out/contents-$2.txt"
-    "$1" < dist/contents.txt | diff - "$out/contents-$2.txt" ||
-        fail "dist/contents.txt does not list what is packed, as $out/contents-$2.txt does"
+# Each line after the name of its package, in order.
+in_order() {
+    awk '/^== / { package = $0; next } { print package, $0 }' | LC_ALL=C sort
 }
-lists cat x86_64 amd64
+# lists COMMAND MACHINE ARCHITECTURE: whether the list, as a command gives it, has the packages for a processor.
+lists() {
+    (cd "$dist" && contents "$2" "$3") | sed "s/$version/VERSION/g" | in_order > "$out/contents-$2.txt"
+    "$1" | in_order | diff - "$out/contents-$2.txt" || fail "dist/contents.txt does not list what is packed, as $out/contents-$2.txt does"
+}
+lists listed x86_64 amd64
 if ls "$dist"/*aarch64* > /dev/null 2>&1; then
     lists for_arm aarch64 arm64
 else

@@ -98,7 +98,7 @@ libraries() {
     ARCHITECTURE=$1
     install_to "$work/libhunkravy-dev" install PREFIX=/usr "LIBRARIES=/$library" "TARGET=$3"
     mkdir -p "$work/libhunkravy0/$library" "$work/libhunkravy0/DEBIAN"
-    mv "$work/libhunkravy-dev/$library"/libhunkravy.so.0 "$work/libhunkravy0/$library"
+    mv "$work/libhunkravy-dev/$library"/libhunkravy.so.0* "$work/libhunkravy0/$library"
     echo "libhunkravy 0 libhunkravy0 (>= $version)" > "$work/libhunkravy0/DEBIAN/shlibs"
     echo 'activate-noawait ldconfig' > "$work/libhunkravy0/DEBIAN/triggers"
     package libhunkravy0 libs 'libc6 (>= 2.17)' 'AEGIS ciphers and their MACs with a proved core' \
