@@ -1,5 +1,5 @@
 # The Python package: its wheels, with the native module, and its tests.
-.PHONY: check-python python-package
+.PHONY: check-python python-package test-python
 
 # A wheel for each processor, with the library of its folder.
 WHEEL_NAME = $(OUT)/hunkravy-$(VERSION)-cp311-abi3-manylinux_2_17
@@ -17,6 +17,10 @@ $(WHEEL_aarch64): $(OUT)/aarch64/libhunkravy.a $(PACKAGE)
 # The package, unpacked from its wheel.
 python-package: $(WHEEL)
 	rm -rf $(OUT)/python && mkdir $(OUT)/python && python3 -m zipfile -e $(WHEEL) $(OUT)/python
+
+# Its tests.
+test-python: python-package
+	cd python/tests && PYTHONPATH="$(CURDIR)/$(OUT)/python" python3 -B -m unittest
 
 # The tests of the package as the wheel has it, with files of the tool: see tools/check_python.sh.
 check-python: export HUNKRAVY_TOOL = $(CURDIR)/$(OUT)/$(lastword $(TOOL_LEVELS))/hunkravy

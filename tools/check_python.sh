@@ -14,12 +14,10 @@ fail() {
     exit 1
 }
 
-# run_tests FOLDER: runs the tests with the package of a folder. Some versions of unittest pass with no tests, and one
-# test counts them.
+# run_tests FOLDER: runs the tests with the package of a folder. Some versions of unittest pass with no tests.
 run_tests() {
     (cd tests && PYTHONPATH=$1 python3 -bb -W error -m unittest -v) > "$work/log" 2>&1 || { cat "$work/log"; fail 'a test failed'; }
-    grep '^Ran ' "$work/log"
-    grep -qE '^test_no_test_is_left_out .* ok$' "$work/log" || fail 'the tests were not counted'
+    grep '^Ran [1-9]' "$work/log" || fail 'there was no test'
 }
 
 run_tests "$folder"

@@ -13,17 +13,23 @@ class Turns:
 
     def __init__(self) -> None:
         self._lock = threading.RLock()
+        self._owner = threading.Condition(self._lock)
 
     def _turn(self) -> ContextManager[Any]:
         """Returns the lock. There is none if `__init__` has raised, and this thread may hold it in a method beneath."""
-        lock: Any = vars(self).get("_lock")
-        if lock is None:
+        owner = vars(self).get("_owner")
+        if owner is None:
             return contextlib.nullcontext()
-        if lock._is_owned():
+        try:
+            # Nothing waits for it. It raises unless this thread has the lock.
+            owner.notify()
+        except RuntimeError:
+            pass
+        else:
             raise RuntimeError("reentrant call")
         if sys.is_finalizing():
             # A thread that has it never goes on.
-            if not lock.acquire(blocking=False):
+            if not self._lock.acquire(blocking=False):
                 raise RuntimeError("a method is called in another thread, and the interpreter ends")
-            lock.release()
-        return lock  # type: ignore[no-any-return]
+            self._lock.release()
+        return self._lock

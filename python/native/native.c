@@ -30,12 +30,11 @@
 
 /* ---- What the types share */
 
-/* Returns what has a name in the module of an object, or null with an exception. */
-static PyObject *of_module(PyObject *object, const char *name)
-{
-    PyObject *module = PyType_GetModule(Py_TYPE(object));
-    return module == NULL ? NULL : PyObject_GetAttrString(module, name);
-}
+/* What the module has of its own, whatever its names are bound to. */
+typedef struct {
+    PyObject *invalid_tag;
+    PyTypeObject *state;
+} Module;
 
 /* Returns the result if the code is HUNKRAVY_OK. Otherwise drops it, and returns null with the code's exception. */
 static void *result_of(void *object, int code, void *result)
@@ -47,11 +46,8 @@ static void *result_of(void *object, int code, void *result)
     if (code == HUNKRAVY_WRONG_STATE) {
         return PyErr_SetString(PyExc_RuntimeError, "this message has already ended"), NULL;
     }
-    PyObject *error = code == HUNKRAVY_INVALID_TAG ? of_module(object, "InvalidTag") : Py_NewRef(PyExc_ValueError);
-    if (error != NULL) {
-        PyErr_SetString(error, hunkravy_error_text(code));
-        Py_DECREF(error);
-    }
+    const Module *module = PyType_GetModuleState(Py_TYPE(object));
+    PyErr_SetString(code == HUNKRAVY_INVALID_TAG ? module->invalid_tag : PyExc_ValueError, hunkravy_error_text(code));
     return NULL;
 }
 
@@ -565,18 +561,6 @@ static PyObject *cipher_keystream(PyObject *object, PyObject *given)
     return result;
 }
 
-/* Makes a state, whose type is in the module of an object. */
-static State *new_state(PyObject *object)
-{
-    State *state = NULL;
-    PyObject *type = of_module(object, "State");
-    if (type != NULL && PyType_Check(type) && PyType_GetSlot((PyTypeObject *)type, Py_tp_dealloc) == SLOT(state_free)) {
-        state = new_object((PyTypeObject *)type);
-    }
-    Py_XDECREF(type);
-    return state;
-}
-
 /* Begins a message in chunks. The arguments are the nonce, and the associated data, without which it is a MAC. */
 static PyObject *cipher_begin(PyObject *object, PyObject *given)
 {
@@ -586,7 +570,7 @@ static PyObject *cipher_begin(PyObject *object, PyObject *given)
     memset(&arguments, 0, sizeof arguments);
     if (PyArg_ParseTuple(given, "y*|y*", &arguments.nonce, &arguments.associated) &&
         has_length("the nonce", arguments.nonce.len, self->key_bytes)) {
-        state = new_state(object);
+        state = new_object(((Module *)PyType_GetModuleState(Py_TYPE(object)))->state);
     }
     if (state != NULL) {
         const uint8_t *nonce = arguments.nonce.buf, *associated = arguments.associated.buf, *key = self->key;
@@ -727,7 +711,7 @@ static PyObject *cipher_begin_journal(PyObject *object, PyObject *given)
     }
     if (has_length("the ID", id.len, HUNKRAVY_PAGE_ID_BYTES) &&
         has_length("the nonce", nonce.len, HUNKRAVY_JOURNAL_NONCE_BYTES)) {
-        state = new_state(object);
+        state = new_object(((Module *)PyType_GetModuleState(Py_TYPE(object)))->state);
     }
     if (state != NULL) {
         int code = hunkravy_journal_init(self->variant, &state->state, page_size, id.buf, nonce.buf, self->key,
@@ -915,23 +899,59 @@ static PyType_Spec specs[] = {
     {"hunkravy._native.Records", sizeof(Records), 0, TYPE_FLAGS, records_slots},
 };
 
-static int execute(PyObject *module)
+static int execute(PyObject *object)
 {
-    PyObject *invalid_tag = PyErr_NewExceptionWithDoc("hunkravy.InvalidTag",
+    Module *module = PyModule_GetState(object);
+    if (module->state != NULL) {
+        return 0;
+    }
+    module->invalid_tag = PyErr_NewExceptionWithDoc("hunkravy.InvalidTag",
         "The tag is not that of the message, or the MAC is not that of the input.", NULL, NULL);
-    int result = PyModule_AddObjectRef(module, "InvalidTag", invalid_tag);
-    Py_XDECREF(invalid_tag);
-    result = result < 0 ? result : PyModule_AddIntConstant(module, "LEVEL", hunkravy_level());
+    int result = PyModule_AddObjectRef(object, "InvalidTag", module->invalid_tag);
+    result = result < 0 ? result : PyModule_AddIntConstant(object, "LEVEL", hunkravy_level());
     for (size_t i = 0; result == 0 && i < sizeof specs / sizeof specs[0]; i++) {
-        PyObject *type = PyType_FromModuleAndSpec(module, &specs[i], NULL);
-        result = type == NULL ? -1 : PyModule_AddType(module, (PyTypeObject *)type);
-        Py_XDECREF(type);
+        PyObject *type = PyType_FromModuleAndSpec(object, &specs[i], NULL);
+        result = type == NULL ? -1 : PyModule_AddType(object, (PyTypeObject *)type);
+        if (specs[i].slots == state_slots) {
+            module->state = (PyTypeObject *)type;
+        } else {
+            Py_XDECREF(type);
+        }
     }
     return result;
 }
 
+static int traverse(PyObject *object, visitproc visit, void *arg)
+{
+    const Module *module = PyModule_GetState(object);
+    Py_VISIT(module->invalid_tag);
+    Py_VISIT(module->state);
+    return 0;
+}
+
+static int clear(PyObject *object)
+{
+    Module *module = PyModule_GetState(object);
+    Py_CLEAR(module->invalid_tag);
+    Py_CLEAR(module->state);
+    return 0;
+}
+
+static void free_module(void *object)
+{
+    clear(object);
+}
+
 static PyModuleDef_Slot slots[] = {{Py_mod_exec, SLOT(execute)}, {0, NULL}};
-static PyModuleDef definition = {.m_base = PyModuleDef_HEAD_INIT, .m_name = "hunkravy._native", .m_slots = slots};
+static PyModuleDef definition = {
+    .m_base = PyModuleDef_HEAD_INIT,
+    .m_name = "hunkravy._native",
+    .m_size = sizeof(Module),
+    .m_slots = slots,
+    .m_traverse = traverse,
+    .m_clear = clear,
+    .m_free = free_module,
+};
 
 PyMODINIT_FUNC PyInit__native(void)
 {

@@ -130,10 +130,12 @@ class Begun(unittest.TestCase):
             self.assertEqual({method for method in vars(found) if not method.startswith("_")}, stated)
 
     def test_a_changed_module(self) -> None:
-        """No other type than its own is used as a state."""
-        for wrong in (int, object, 5):
-            with mock.patch.object(_native, "State", wrong), self.assertRaises(SystemError):
-                CIPHER.encryptor(NONCE)
+        """It uses its own types, whatever its names are bound to."""
+        own, invalid_tag = _native.State, _native.InvalidTag
+        with mock.patch.object(_native, "State", int), mock.patch.object(_native, "InvalidTag", KeyError):
+            self.assertIs(type(CIPHER.encryptor(NONCE)._state), own)
+            with self.assertRaises(invalid_tag):
+                CIPHER.decrypt(NONCE, bytes(40))
 
     def test_roles(self) -> None:
         """The library refuses a state in another role."""

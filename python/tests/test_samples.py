@@ -1,4 +1,4 @@
-"""The samples of the pages and of the modules, the example, and that all tests are found."""
+"""The samples of the pages and of the modules, and the example."""
 
 import contextlib
 import doctest
@@ -94,12 +94,6 @@ class Example(unittest.TestCase):
         for tokens, altered, now in wrong:
             with self.assertRaises(self.invalid):
                 tokens.read(altered, now=now)
-
-
-class Found(unittest.TestCase):
-    def test_no_test_is_left_out(self) -> None:
-        found = unittest.defaultTestLoader.discover(str(HERE))
-        self.assertEqual(found.countTestCases(), 134)
 
 
 if __name__ == "__main__":
