@@ -130,17 +130,22 @@ impl Aegis {
         if self.is_256 { 16 * self.lanes } else { 32 * self.lanes }
     }
 
-    /// One round of each lane. AEGIS-256 ignores the second row.
+    /// One round of each lane that is used. AEGIS-256 ignores the second row.
+    #[inline(always)]
     fn update(&mut self, first: Row, second: Row) {
-        let (old, height) = (self.rows, self.height());
-        let mut keys = old;
-        keys[0] = xor_rows(keys[0], first);
-        if !self.is_256 {
-            keys[4] = xor_rows(keys[4], second);
-        }
-        for (row, key) in keys.into_iter().enumerate().take(height) {
-            let above = old[(row + height - 1) % height];
-            self.rows[row] = from_fn(|lane| above[lane].round(key[lane]));
+        let height = self.height();
+        for lane in 0..self.lanes {
+            let mut above = self.rows[height - 1][lane];
+            for row in 0..height {
+                let own = self.rows[row][lane];
+                let key = match row {
+                    0 => own.xor(first[lane]),
+                    4 if !self.is_256 => own.xor(second[lane]),
+                    _ => own,
+                };
+                self.rows[row][lane] = above.round(key);
+                above = own;
+            }
         }
     }
 
