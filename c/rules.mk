@@ -102,6 +102,7 @@ check-header:
 			'crypto_aead_aegis256_decrypt(0, 0, 0, 0, 0, 0, 0, 0, 0)'; do \
 			uses "int code = $$call; (void)code" && ! uses "$$call" 2> /dev/null || exit 1; \
 		done; \
+		! uses 'int code = hunkravy_mac_final(0, 0, 0); (void)code' 2> /dev/null || exit 1; \
 	done
 	for name in sodium_H crypto_aead_aegis128l_H crypto_aead_aegis256_H; do \
 		! echo '#include "hunkravy_sodium.h"' | $(CC) -D$$name $(C_FLAGS) -fsyntax-only -x c - 2> /dev/null || exit 1; \

@@ -62,11 +62,13 @@
 extern "C" {
 #endif
 
-/* gcc and clang warn if the result is not used. */
+/* gcc and clang warn if the result is not used, and if a pointer that is never null, by its place, is null. */
 #if defined(__GNUC__) || defined(__clang__)
 #define HUNKRAVY_MUST_USE __attribute__((warn_unused_result))
+#define HUNKRAVY_NONNULL(...) __attribute__((nonnull(__VA_ARGS__)))
 #else
 #define HUNKRAVY_MUST_USE
+#define HUNKRAVY_NONNULL(...)
 #endif
 
 /* ---- Errors */
@@ -210,36 +212,40 @@ typedef struct hunkravy_state {
  * decides whether the message is encrypted or decrypted. After an error the state is zeroed.
  */
 HUNKRAVY_MUST_USE int hunkravy_state_init(uint32_t variant, hunkravy_state *st,
-    const uint8_t *ad, size_t adlen, const uint8_t *npub, size_t npublen, const uint8_t *k, size_t klen);
+    const uint8_t *ad, size_t adlen, const uint8_t *npub, size_t npublen, const uint8_t *k, size_t klen)
+    HUNKRAVY_NONNULL(2);
 
 /*
  * Encrypts the next `mclen` bytes of the message in place. Returns HUNKRAVY_MESSAGE_TOO_LONG if all chunks together
  * are too long. After an error `mc` still holds the plaintext, and the state is unchanged.
  */
-HUNKRAVY_MUST_USE int hunkravy_state_encrypt_in_place(hunkravy_state *st, uint8_t *mc, size_t mclen);
+HUNKRAVY_MUST_USE int hunkravy_state_encrypt_in_place(hunkravy_state *st, uint8_t *mc, size_t mclen)
+    HUNKRAVY_NONNULL(1);
 
 /*
  * Encrypts the next `mlen` bytes of the message, from `m` to `c`, which may be the same pointer. Returns the codes of
  * hunkravy_state_encrypt_in_place. After an error nothing is written.
  */
-HUNKRAVY_MUST_USE int hunkravy_state_encrypt(hunkravy_state *st, uint8_t *c, const uint8_t *m, size_t mlen);
+HUNKRAVY_MUST_USE int hunkravy_state_encrypt(hunkravy_state *st, uint8_t *c, const uint8_t *m, size_t mlen)
+    HUNKRAVY_NONNULL(1);
 
 /* Writes the tag of all chunks to `mac`, and zeroes the state. After an error the state is unchanged. */
-HUNKRAVY_MUST_USE int hunkravy_state_encrypt_final(hunkravy_state *st, uint8_t *mac, size_t maclen);
+HUNKRAVY_MUST_USE int hunkravy_state_encrypt_final(hunkravy_state *st, uint8_t *mac, size_t maclen) HUNKRAVY_NONNULL(1);
 
 /*
  * Decrypts the next `mclen` bytes of the ciphertext in place, BEFORE THE TAG IS VERIFIED. The bytes may be forged: do
  * not use them until hunkravy_state_decrypt_final has returned HUNKRAVY_OK. Returns HUNKRAVY_MESSAGE_TOO_LONG if all
  * chunks together are too long. After an error `mc` still holds the ciphertext, and the state is unchanged.
  */
-HUNKRAVY_MUST_USE int hunkravy_state_decrypt_in_place_unverified(hunkravy_state *st, uint8_t *mc, size_t mclen);
+HUNKRAVY_MUST_USE int hunkravy_state_decrypt_in_place_unverified(hunkravy_state *st, uint8_t *mc, size_t mclen)
+    HUNKRAVY_NONNULL(1);
 
 /*
  * Decrypts the next `clen` bytes of the ciphertext, from `c` to `m`, which may be the same pointer, BEFORE THE TAG IS
  * VERIFIED. Returns the codes of hunkravy_state_decrypt_in_place_unverified. After an error nothing is written.
  */
 HUNKRAVY_MUST_USE int hunkravy_state_decrypt_unverified(hunkravy_state *st, uint8_t *m, const uint8_t *c,
-    size_t clen);
+    size_t clen) HUNKRAVY_NONNULL(1);
 
 /*
  * Processes the next `clen` bytes of the ciphertext, and writes only the state. If hunkravy_state_decrypt_final then
@@ -248,7 +254,8 @@ HUNKRAVY_MUST_USE int hunkravy_state_decrypt_unverified(hunkravy_state *st, uint
  * changed. Returns HUNKRAVY_MESSAGE_TOO_LONG if all chunks together are too long. After an error the state is
  * unchanged.
  */
-HUNKRAVY_MUST_USE int hunkravy_state_decrypt_check(hunkravy_state *st, const uint8_t *c, size_t clen);
+HUNKRAVY_MUST_USE int hunkravy_state_decrypt_check(hunkravy_state *st, const uint8_t *c, size_t clen)
+    HUNKRAVY_NONNULL(1);
 
 /*
  * Verifies the tag `mac` of all chunks, and zeroes the state. `m` holds the whole decrypted message of `mlen` bytes. If
@@ -260,7 +267,7 @@ HUNKRAVY_MUST_USE int hunkravy_state_decrypt_check(hunkravy_state *st, const uin
  * unverified.
  */
 HUNKRAVY_MUST_USE int hunkravy_state_decrypt_final(hunkravy_state *st, uint8_t *m, size_t mlen,
-    const uint8_t *mac, size_t maclen);
+    const uint8_t *mac, size_t maclen) HUNKRAVY_NONNULL(1);
 
 /* ---- MACs. Without a nonce pass zeros. */
 
@@ -277,22 +284,24 @@ HUNKRAVY_MUST_USE int hunkravy_mac_verify(uint32_t variant, const uint8_t *input
 
 /* Initialises a state for a MAC whose input comes in chunks. After an error the state is zeroed. */
 HUNKRAVY_MUST_USE int hunkravy_mac_init(uint32_t variant, hunkravy_state *st,
-    const uint8_t *npub, size_t npublen, const uint8_t *k, size_t klen);
+    const uint8_t *npub, size_t npublen, const uint8_t *k, size_t klen) HUNKRAVY_NONNULL(2);
 
 /*
  * Processes the next `inputlen` bytes of the input. Returns HUNKRAVY_MESSAGE_TOO_LONG if all chunks together are too
  * long. After an error the state is unchanged.
  */
-HUNKRAVY_MUST_USE int hunkravy_mac_update(hunkravy_state *st, const uint8_t *input, size_t inputlen);
+HUNKRAVY_MUST_USE int hunkravy_mac_update(hunkravy_state *st, const uint8_t *input, size_t inputlen)
+    HUNKRAVY_NONNULL(1);
 
 /*
  * Writes the MAC of the input so far to `mac`. The state is unchanged, so more input may follow. Call hunkravy_wipe
  * after the last use of the state.
  */
-HUNKRAVY_MUST_USE int hunkravy_mac_final(const hunkravy_state *st, uint8_t *mac, size_t maclen);
+HUNKRAVY_MUST_USE int hunkravy_mac_final(const hunkravy_state *st, uint8_t *mac, size_t maclen) HUNKRAVY_NONNULL(1);
 
 /* Verifies that `mac` is the MAC of the input so far. Returns HUNKRAVY_INVALID_TAG if not. Writes nothing. */
-HUNKRAVY_MUST_USE int hunkravy_mac_final_verify(const hunkravy_state *st, const uint8_t *mac, size_t maclen);
+HUNKRAVY_MUST_USE int hunkravy_mac_final_verify(const hunkravy_state *st, const uint8_t *mac, size_t maclen)
+    HUNKRAVY_NONNULL(1);
 
 /* ---- Keystreams, which encrypt and decrypt WITHOUT A TAG */
 

@@ -68,7 +68,7 @@ uint64_t hunkravy_page_place(uint32_t variant, uint32_t page_size, uint64_t numb
  * an error nothing is written, and `page` still holds the plaintext.
  */
 HUNKRAVY_MUST_USE int hunkravy_page_seal(uint32_t variant, uint8_t *page, size_t pagelen, const uint8_t *id,
-    uint64_t number, const uint8_t *npub, size_t npublen, const uint8_t *k, size_t klen);
+    uint64_t number, const uint8_t *npub, size_t npublen, const uint8_t *k, size_t klen) HUNKRAVY_NONNULL(4);
 
 /*
  * Decrypts page `number`, the `pagelen` bytes at `page`, in place. Its contents are then at
@@ -78,7 +78,7 @@ HUNKRAVY_MUST_USE int hunkravy_page_seal(uint32_t variant, uint8_t *page, size_t
  * id and key. After HUNKRAVY_INVALID_TAG each of the `pagelen` bytes is 0xaa. After any other error nothing is written.
  */
 HUNKRAVY_MUST_USE int hunkravy_page_open(uint32_t variant, uint8_t *page, size_t pagelen, const uint8_t *id,
-    uint64_t number, const uint8_t *k, size_t klen);
+    uint64_t number, const uint8_t *k, size_t klen) HUNKRAVY_NONNULL(4);
 
 /*
  * Encrypts the header with `counter` and `contentslen`, the length of the contents. Writes it to the
@@ -90,7 +90,7 @@ HUNKRAVY_MUST_USE int hunkravy_page_open(uint32_t variant, uint8_t *page, size_t
  */
 HUNKRAVY_MUST_USE int hunkravy_page_header_seal(uint32_t variant, uint8_t *header_block, uint32_t page_size,
     const uint8_t *id, uint64_t counter, uint64_t contentslen, const uint8_t *npub, size_t npublen, const uint8_t *k,
-    size_t klen);
+    size_t klen) HUNKRAVY_NONNULL(2, 4);
 
 /*
  * Decrypts the header in the HUNKRAVY_PAGE_HEADER_BLOCK_BYTES at `header_block`, and writes its fields to `page_size`,
@@ -100,7 +100,8 @@ HUNKRAVY_MUST_USE int hunkravy_page_header_seal(uint32_t variant, uint8_t *heade
  * header of this variant and key. After an error nothing is written.
  */
 HUNKRAVY_MUST_USE int hunkravy_page_header_open(uint32_t variant, const uint8_t *header_block, const uint8_t *k,
-    size_t klen, uint32_t *page_size, uint8_t *id, uint64_t *counter, uint64_t *contentslen);
+    size_t klen, uint32_t *page_size, uint8_t *id, uint64_t *counter, uint64_t *contentslen)
+    HUNKRAVY_NONNULL(2, 5, 6, 7, 8);
 
 /* ---- The journal
  *
@@ -148,7 +149,7 @@ HUNKRAVY_MUST_USE int hunkravy_page_header_open(uint32_t variant, const uint8_t 
  * the state is zeroed, and nothing else is written.
  */
 HUNKRAVY_MUST_USE int hunkravy_journal_init(uint32_t variant, hunkravy_state *st, uint32_t page_size,
-    const uint8_t *id, const uint8_t *npub, const uint8_t *k, size_t klen, uint8_t *start);
+    const uint8_t *id, const uint8_t *npub, const uint8_t *k, size_t klen, uint8_t *start) HUNKRAVY_NONNULL(2, 4, 5, 8);
 
 /*
  * Takes in the write of `byteslen` bytes at position `place` of the file. Writes the HUNKRAVY_JOURNAL_HEAD_BYTES at
@@ -158,14 +159,14 @@ HUNKRAVY_MUST_USE int hunkravy_journal_init(uint32_t variant, hunkravy_state *st
  * journal past 2^60. After an error nothing is written.
  */
 HUNKRAVY_MUST_USE int hunkravy_journal_entry(hunkravy_state *st, uint64_t place, const uint8_t *bytes, size_t byteslen,
-    uint8_t *head);
+    uint8_t *head) HUNKRAVY_NONNULL(1, 5);
 
 /*
  * Writes the HUNKRAVY_JOURNAL_MAC_BYTES at `mac`, with which the journal ends, and zeros the state.
  *
  * Returns HUNKRAVY_OK, or HUNKRAVY_WRONG_STATE, after which nothing is written.
  */
-HUNKRAVY_MUST_USE int hunkravy_journal_final(hunkravy_state *st, uint8_t *mac);
+HUNKRAVY_MUST_USE int hunkravy_journal_final(hunkravy_state *st, uint8_t *mac) HUNKRAVY_NONNULL(1, 2);
 
 /*
  * Decides what is to be made of the journal of a file. `file` is what the file begins with: at least
@@ -181,7 +182,7 @@ HUNKRAVY_MUST_USE int hunkravy_journal_final(hunkravy_state *st, uint8_t *mac);
  * another state of this one. After an error nothing is written.
  */
 HUNKRAVY_MUST_USE int hunkravy_journal_check(uint32_t variant, const uint8_t *file, size_t filelen, const uint8_t *k,
-    size_t klen, const uint8_t *journal, size_t journallen, size_t *writeslen);
+    size_t klen, const uint8_t *journal, size_t journallen, size_t *writeslen) HUNKRAVY_NONNULL(8);
 
 /*
  * Finds the first of the writes in the `writeslen` bytes at `writes`: its position in the file, and the length of its
@@ -191,7 +192,7 @@ HUNKRAVY_MUST_USE int hunkravy_journal_check(uint32_t variant, const uint8_t *fi
  * hunkravy_journal_check has accepted. After an error nothing is written.
  */
 HUNKRAVY_MUST_USE int hunkravy_journal_next(const uint8_t *writes, size_t writeslen, uint64_t *place,
-    size_t *byteslen);
+    size_t *byteslen) HUNKRAVY_NONNULL(3, 4);
 
 #ifdef __cplusplus
 }

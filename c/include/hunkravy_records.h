@@ -51,14 +51,15 @@ typedef struct hunkravy_record_stream {
  * or HUNKRAVY_CONTEXT_TOO_LONG: then the state is zeroed, and nothing else is written.
  */
 HUNKRAVY_MUST_USE int hunkravy_record_begin(hunkravy_record_stream *st, const uint8_t *k, const uint8_t *prefix,
-    const uint8_t *context, size_t contextlen, uint8_t *header);
+    const uint8_t *context, size_t contextlen, uint8_t *header) HUNKRAVY_NONNULL(1, 2, 3, 6);
 
 /*
  * Begins a stream to decrypt, whose HUNKRAVY_RECORD_HEADER_BYTES are at `header`. Returns HUNKRAVY_OK,
  * HUNKRAVY_UNKNOWN_HEADER or HUNKRAVY_CONTEXT_TOO_LONG. After an error the state is zeroed.
  */
 HUNKRAVY_MUST_USE int hunkravy_record_begin_open(hunkravy_record_stream *st, const uint8_t *k,
-    const uint8_t *prefix, const uint8_t *context, size_t contextlen, const uint8_t *header);
+    const uint8_t *prefix, const uint8_t *context, size_t contextlen, const uint8_t *header)
+    HUNKRAVY_NONNULL(1, 2, 3, 6);
 
 /*
  * Begins to decrypt a stream at record `number`, counted from 0. The messages before it have `before` bytes in total.
@@ -69,7 +70,8 @@ HUNKRAVY_MUST_USE int hunkravy_record_begin_open(hunkravy_record_stream *st, con
  * limit of a stream. After an error the state is zeroed.
  */
 HUNKRAVY_MUST_USE int hunkravy_record_begin_open_at(hunkravy_record_stream *st, const uint8_t *k,
-    const uint8_t *prefix, const uint8_t *context, size_t contextlen, uint64_t number, uint64_t before);
+    const uint8_t *prefix, const uint8_t *context, size_t contextlen, uint64_t number, uint64_t before)
+    HUNKRAVY_NONNULL(1, 2, 3);
 
 /*
  * Encrypts the next message, which is not the last one, in place. Its `mlen` bytes are at `record +
@@ -78,13 +80,15 @@ HUNKRAVY_MUST_USE int hunkravy_record_begin_open_at(hunkravy_record_stream *st, 
  * Returns HUNKRAVY_OK, HUNKRAVY_WRONG_STATE if the state does not encrypt, or HUNKRAVY_MESSAGE_TOO_LONG if the
  * message or the stream would be too long. After an error nothing is written, and `record` still holds the plaintext.
  */
-HUNKRAVY_MUST_USE int hunkravy_record_seal(hunkravy_record_stream *st, uint8_t *record, size_t mlen);
+HUNKRAVY_MUST_USE int hunkravy_record_seal(hunkravy_record_stream *st, uint8_t *record, size_t mlen)
+    HUNKRAVY_NONNULL(1);
 
 /*
  * Encrypts the last message, like hunkravy_record_seal, and zeroes the state. After an error the state is unchanged
  * too.
  */
-HUNKRAVY_MUST_USE int hunkravy_record_seal_last(hunkravy_record_stream *st, uint8_t *record, size_t mlen);
+HUNKRAVY_MUST_USE int hunkravy_record_seal_last(hunkravy_record_stream *st, uint8_t *record, size_t mlen)
+    HUNKRAVY_NONNULL(1);
 
 /*
  * Writes the length of the next record, whose first HUNKRAVY_RECORD_HEAD_BYTES are at `head`, to `recordlen`. The
@@ -94,7 +98,7 @@ HUNKRAVY_MUST_USE int hunkravy_record_seal_last(hunkravy_record_stream *st, uint
  * with these bytes, or HUNKRAVY_MESSAGE_TOO_LONG if the message would be too long. After an error nothing is written.
  */
 HUNKRAVY_MUST_USE int hunkravy_record_len(const hunkravy_record_stream *st, const uint8_t *head,
-    size_t *recordlen);
+    size_t *recordlen) HUNKRAVY_NONNULL(1, 2, 3);
 
 /*
  * Decrypts the next record, the `recordlen` bytes at `record`, in place. Its message is then the `*mlen` bytes at
@@ -111,7 +115,7 @@ HUNKRAVY_MUST_USE int hunkravy_record_len(const hunkravy_record_stream *st, cons
  * state is unchanged.
  */
 HUNKRAVY_MUST_USE int hunkravy_record_open(hunkravy_record_stream *st, uint8_t *record, size_t recordlen,
-    size_t *mlen, int *is_last);
+    size_t *mlen, int *is_last) HUNKRAVY_NONNULL(1, 4, 5);
 
 #ifdef __cplusplus
 }
