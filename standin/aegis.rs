@@ -127,7 +127,11 @@ impl Aegis {
 
     /// How many bytes are absorbed together.
     pub fn rate(&self) -> usize {
-        if self.is_256 { 16 * self.lanes } else { 32 * self.lanes }
+        if self.is_256 {
+            16 * self.lanes
+        } else {
+            32 * self.lanes
+        }
     }
 
     /// One round of each lane that is used. AEGIS-256 ignores the second row.
@@ -194,7 +198,9 @@ impl Aegis {
 
     /// The tag of one lane. A short one is the first block.
     fn lane_tag(&self, lane: usize, is_long: bool) -> [Block; 2] {
-        let sum = |rows: core::ops::Range<usize>| rows.fold(zero(), |sum, row| sum.xor(self.rows[row][lane]));
+        let sum = |rows: core::ops::Range<usize>| {
+            rows.fold(zero(), |sum, row| sum.xor(self.rows[row][lane]))
+        };
         match (self.is_256, is_long) {
             (true, false) => [sum(0..6), zero()],
             (true, true) => [sum(0..3), sum(3..6)],
@@ -242,7 +248,14 @@ impl Aegis {
         }
         let count = size * (self.lanes - first);
         for pair in blocks[..count].chunks(if is_256 { 1 } else { 2 }) {
-            let row = |at: usize| [pair.get(at).copied().unwrap_or(zero()), zero(), zero(), zero()];
+            let row = |at: usize| {
+                [
+                    pair.get(at).copied().unwrap_or(zero()),
+                    zero(),
+                    zero(),
+                    zero(),
+                ]
+            };
             self.update(row(0), row(1));
         }
     }

@@ -84,8 +84,14 @@ impl State {
             self.mark == MARK && self.variant < 6 && is_role && (!is_mac || self.data_bytes == 0),
             WRONG_STATE,
         )?;
-        check(self.message_bytes.max(self.data_bytes) <= MAX_BYTES, WRONG_STATE)?;
-        check(more as u64 <= MAX_BYTES - self.message_bytes, MESSAGE_TOO_LONG)
+        check(
+            self.message_bytes.max(self.data_bytes) <= MAX_BYTES,
+            WRONG_STATE,
+        )?;
+        check(
+            more as u64 <= MAX_BYTES - self.message_bytes,
+            MESSAGE_TOO_LONG,
+        )
     }
 
     fn aegis(&self) -> Aegis {
@@ -175,14 +181,28 @@ impl State {
 }
 
 /// Encrypts a message in one call. All lengths are right.
-pub fn encrypt(variant: u32, key: &[u8], nonce: &[u8], data: &[&[u8]], message: &mut [u8], tag: &mut [u8]) {
+pub fn encrypt(
+    variant: u32,
+    key: &[u8],
+    nonce: &[u8],
+    data: &[&[u8]],
+    message: &mut [u8],
+    tag: &mut [u8],
+) {
     let mut state = State::begin_message(variant, key, nonce, data);
     state.encrypt(message);
     state.finish(tag);
 }
 
 /// Decrypts a message in one call, and returns whether this is its tag. Otherwise its bytes are erased.
-pub fn decrypt(variant: u32, key: &[u8], nonce: &[u8], data: &[&[u8]], message: &mut [u8], tag: &[u8]) -> bool {
+pub fn decrypt(
+    variant: u32,
+    key: &[u8],
+    nonce: &[u8],
+    data: &[&[u8]],
+    message: &mut [u8],
+    tag: &[u8],
+) -> bool {
     let mut state = State::begin_message(variant, key, nonce, data);
     state.decrypt(message);
     let is_right = state.is_finished_by(tag);

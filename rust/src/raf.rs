@@ -151,12 +151,20 @@ pub struct Raf<A: Algorithm, I: RafIo = FileIo, R: RafRng = DefaultRng, J: RafIo
 
 #[cfg(feature = "raf")]
 impl<A: Algorithm> Raf<A> {
-    /// Creates a file at a path where there is none, as [`RafBuilder::create_file`] does.
+    /// Creates a file at a path where there is none.
+    ///
+    /// # Errors
+    ///
+    /// Those of [`RafBuilder::create_file`].
     pub fn create_file(path: impl AsRef<Path>, key: &A::Key) -> Result<Self> {
         RafBuilder::new().create_file(path, key)
     }
 
-    /// Opens the file at a path, as [`RafBuilder::open_file`] does.
+    /// Opens the file at a path.
+    ///
+    /// # Errors
+    ///
+    /// Those of [`RafBuilder::open_file`].
     pub fn open_file(path: impl AsRef<Path>, key: &A::Key) -> Result<Self> {
         RafBuilder::new().open_file(path, key)
     }
@@ -164,6 +172,10 @@ impl<A: Algorithm> Raf<A> {
 
 impl<A: Algorithm> Raf<A> {
     /// Derives the key of a file, or of a family of files, from a master key, as [`derive_key`] does.
+    ///
+    /// # Errors
+    ///
+    /// Those of [`derive_key`].
     pub fn derive_master_key(master_key: &A::Key, context: &[u8]) -> Result<A::Key> {
         let mut key = A::Key::default();
         derive::derive(master_key.as_ref(), context, key.as_mut())?;
@@ -273,8 +285,12 @@ impl<A: Algorithm, I: RafIo, R: RafRng, J: RafIo> Raf<A, I, R, J> {
         Ok(())
     }
 
-    /// Truncates the contents to `size` bytes, or extends them with zeros, in memory. The errors are those of
-    /// [`write`](Raf::write). The file itself does not become shorter: the pages past the end stay in it, encrypted.
+    /// Truncates the contents to `size` bytes, or extends them with zeros, in memory. The file itself does not become shorter:
+    /// the pages past the end stay in it, encrypted.
+    ///
+    /// # Errors
+    ///
+    /// Those of [`write`](Raf::write).
     pub fn truncate(&mut self, size: u64) -> Result<()> {
         if size > self.size {
             self.write(&[], size)?;
@@ -373,9 +389,25 @@ impl<A: Algorithm, I: RafIo, R: RafRng, J: RafIo> Raf<A, I, R, J> {
         Ok(self.layout.journal(&nonce))
     }
 
-    /// Commits the changes: the same as [`commit`](Raf::commit).
+    /// Commits the changes.
+    ///
+    /// # Errors
+    ///
+    /// Those of [`commit`](Raf::commit), which is the same.
     pub fn sync(&mut self) -> Result<()> {
         self.commit()
+    }
+
+    /// Commits the changes, and closes the file. Dropping it does the same, and ignores the error.
+    ///
+    /// # Errors
+    ///
+    /// Those of [`commit`](Raf::commit). Changes that are only in memory are then lost.
+    pub fn close(mut self) -> Result<()> {
+        let committed = self.commit();
+        // Dropping it does not commit once more.
+        self.is_cut_short = true;
+        committed
     }
 
     /// Discards all changes since the last commit.

@@ -11,6 +11,7 @@ use super::{Algorithm, Error, Raf, Result, default_chunk_size};
 use crate::exports::PageHeader;
 use crate::memory::zeros;
 use alloc::vec::Vec;
+use core::fmt;
 use core::marker::PhantomData;
 use std::io;
 use std::path::Path;
@@ -27,6 +28,14 @@ pub struct RafBuilder<A: Algorithm, R: RafRng = DefaultRng, J: JournalChoice = B
     rng: R,
     journal: J,
     algorithm: PhantomData<A>,
+}
+
+impl<A: Algorithm, R: RafRng, J: JournalChoice> fmt::Debug for RafBuilder<A, R, J> {
+    fn fmt(&self, f: &mut fmt::Formatter<'_>) -> fmt::Result {
+        f.debug_struct("RafBuilder")
+            .field("chunk_size", &self.chunk_size)
+            .finish_non_exhaustive()
+    }
 }
 
 impl<A: Algorithm> RafBuilder<A> {
@@ -170,7 +179,11 @@ impl<A: Algorithm, R: RafRng, J: JournalChoice> RafBuilder<A, R, J> {
         self.begin(io, key, &draws)
     }
 
-    /// Opens the file at a path. The rest is that of [`open`](Self::open).
+    /// Opens the file at a path.
+    ///
+    /// # Errors
+    ///
+    /// Those of [`FileIo::open`] and of [`open`](Self::open).
     pub fn open_file(
         self,
         path: impl AsRef<Path>,

@@ -1,6 +1,7 @@
 //! A position in the contents of a file.
 
 use super::{Algorithm, Raf, RafIo, RafRng};
+use core::fmt;
 use std::io::{self, Read, Seek, SeekFrom, Write};
 
 /// A position in the contents of a file, which each read and write advances. [`Raf::cursor`] returns one.
@@ -13,6 +14,14 @@ pub struct RafCursor<'a, A: Algorithm, I: RafIo, R: RafRng, J: RafIo> {
 impl<'a, A: Algorithm, I: RafIo, R: RafRng, J: RafIo> RafCursor<'a, A, I, R, J> {
     pub(super) fn new(file: &'a mut Raf<A, I, R, J>) -> Self {
         RafCursor { file, offset: 0 }
+    }
+}
+
+impl<A: Algorithm, I: RafIo, R: RafRng, J: RafIo> fmt::Debug for RafCursor<'_, A, I, R, J> {
+    fn fmt(&self, f: &mut fmt::Formatter<'_>) -> fmt::Result {
+        f.debug_struct("RafCursor")
+            .field("offset", &self.offset)
+            .finish_non_exhaustive()
     }
 }
 

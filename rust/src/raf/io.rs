@@ -16,22 +16,42 @@ use std::path::{Path, PathBuf};
 /// [`Raf`](super::Raf) calls it from one thread at a time. Commits rely on [`sync`](RafIo::sync), and on this: before `sync` has
 /// returned, a crash may leave any bytes where something was written, and the old size or the new one. No other byte changes.
 pub trait RafIo {
-    /// Fills `buf` with the bytes from `offset` on. Returns an error if there are fewer.
+    /// Fills `buf` with the bytes from `offset` on.
+    ///
+    /// # Errors
+    ///
+    /// If there are fewer bytes, or the system's.
     fn read_at(&mut self, buf: &mut [u8], offset: u64) -> io::Result<()>;
 
     /// Writes all of `data` over the bytes from `offset` on. Zeros fill a gap in front of them.
+    ///
+    /// # Errors
+    ///
+    /// The system's, for example on a full disk.
     fn write_at(&mut self, data: &[u8], offset: u64) -> io::Result<()>;
 
     /// Returns the number of bytes.
+    ///
+    /// # Errors
+    ///
+    /// The system's.
     fn get_size(&mut self) -> io::Result<u64>;
 
     /// Truncates the bytes to `size`, or extends them with zeros.
+    ///
+    /// # Errors
+    ///
+    /// The system's.
     fn set_size(&mut self, size: u64) -> io::Result<()>;
 
     /// Makes room for writes of bytes from `from` up to `end`, so that they do not fail because the disk is full. The bytes from
     /// `from` on are not in use, and may become zeros. It is called in a commit, before any bytes are written.
     ///
     /// The default extends the storage to `end` bytes if it has fewer.
+    ///
+    /// # Errors
+    ///
+    /// If there is no room.
     fn reserve(&mut self, from: u64, end: u64) -> io::Result<()> {
         let _ = from;
         if end > self.get_size()? {
@@ -43,6 +63,10 @@ pub trait RafIo {
     /// Returns once everything that was written survives a loss of power.
     ///
     /// The default does nothing. It is for storages that do not survive a crash, such as memory.
+    ///
+    /// # Errors
+    ///
+    /// If something may be lost.
     fn sync(&mut self) -> io::Result<()> {
         Ok(())
     }
@@ -51,14 +75,22 @@ pub trait RafIo {
     /// a file with a journal is opened.
     ///
     /// The default does nothing. It is for storages without a memory in front of them.
+    ///
+    /// # Errors
+    ///
+    /// If reads may return something else.
     fn forget(&mut self) -> io::Result<()> {
         Ok(())
     }
 
-    /// Locks the storage against all others, until it is dropped. Returns [`Error::Locked`] if another has locked it. It is called
-    /// once, before anything is written, and before anything is read except the size.
+    /// Locks the storage against all others, until it is dropped. It is called once, before anything is written, and before
+    /// anything is read except the size.
     ///
     /// The default does nothing: the caller must make sure that nothing else writes the bytes.
+    ///
+    /// # Errors
+    ///
+    /// [`Error::Locked`] if another has locked it.
     fn lock(&mut self) -> Result<()> {
         Ok(())
     }
@@ -78,11 +110,15 @@ pub trait RafIo {
         true
     }
 
-    /// Returns [`Error::Moved`] if a later opening would not find the journal at [`journal_path`](RafIo::journal_path). A journal
-    /// returns an error if it cannot be written. It is called in each commit, before any bytes are written, and at the end of a
-    /// creation. Then the name of a storage survives a loss of power, if it has one.
+    /// Checks that a later opening would find the journal at [`journal_path`](RafIo::journal_path). It is called in each commit,
+    /// before any bytes are written, and at the end of a creation. Then the name of a storage survives a loss of power, if it
+    /// has one.
     ///
     /// The default does nothing.
+    ///
+    /// # Errors
+    ///
+    /// [`Error::Moved`] if it would not, and any error of a journal that cannot be written.
     fn check_path(&mut self) -> Result<()> {
         Ok(())
     }
@@ -129,11 +165,19 @@ impl FileIo {
     }
 
     /// Opens the file at a path, and creates it if there is none. Its contents are kept.
+    ///
+    /// # Errors
+    ///
+    /// [`Error::Io`]: the system's, or memory ran out.
     pub fn create(path: impl AsRef<Path>) -> Result<Self> {
         Self::with(File::options().create(true), path.as_ref())
     }
 
     /// Opens the file at a path.
+    ///
+    /// # Errors
+    ///
+    /// As [`create`](Self::create).
     pub fn open(path: impl AsRef<Path>) -> Result<Self> {
         Self::with(&mut File::options(), path.as_ref())
     }

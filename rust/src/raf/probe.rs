@@ -5,6 +5,7 @@ use super::{AlgorithmId, Error, RafIo, Result};
 
 /// The plaintext part of a header. It is not verified.
 #[derive(Clone, Copy, Debug, PartialEq, Eq)]
+#[non_exhaustive]
 pub struct RafInfo {
     /// The algorithm.
     pub algorithm: AlgorithmId,

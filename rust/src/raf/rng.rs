@@ -5,8 +5,12 @@ use std::io::{self, ErrorKind};
 
 /// A source of random bytes, for nonces and ids.
 pub trait RafRng {
-    /// Fills `buf` with random bytes. After an error the bytes of `buf` are not used. **Never return the same bytes twice**
-    /// under one key. The reserved nonce, whose bytes are all 255, is rejected with an [`Error::Io`].
+    /// Fills `buf` with random bytes. **Never return the same bytes twice** under one key. The reserved nonce, whose bytes are
+    /// all 255, is rejected with an [`Error::Io`].
+    ///
+    /// # Errors
+    ///
+    /// Any. The bytes of `buf` are then not used.
     fn fill(&mut self, buf: &mut [u8]) -> Result<()>;
 }
 

@@ -181,10 +181,12 @@ impl<'c> Opener<'c> {
         })
     }
 
-    /// Opens the next record in place. The arguments and the errors are those of [`open_next`](Self::open_next).
+    /// Opens the next record in place. The arguments are those of [`open_next`](Self::open_next).
     ///
-    /// After [`Error::Damaged`] each byte of the record is [`ERASED`](crate::ERASED). After any other error `bytes` is
-    /// unchanged.
+    /// # Errors
+    ///
+    /// Those of [`open_next`](Self::open_next). After [`Error::Damaged`] each byte of the record is
+    /// [`ERASED`](crate::ERASED). After any other error `bytes` is unchanged.
     ///
     /// ```
     /// use hunkravy::records::{Error, HEADER_BYTES, Opener, Sealer};

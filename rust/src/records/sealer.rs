@@ -75,8 +75,11 @@ impl<'c> Sealer<'c> {
         self.append(message, stream, false)
     }
 
-    /// Appends the record of the last message to `stream`. The errors are those of [`seal_next`](Self::seal_next). Nothing has
-    /// changed then, and another message may be the last one.
+    /// Appends the record of the last message to `stream`.
+    ///
+    /// # Errors
+    ///
+    /// Those of [`seal_next`](Self::seal_next). Nothing has changed then, and another message may be the last one.
     pub fn seal_last(&mut self, message: &[u8], stream: &mut Vec<u8>) -> Result<(), Error> {
         self.append(message, stream, true)
     }

@@ -488,6 +488,22 @@ fn files_that_are_none() {
     }
 }
 
+/// Closing commits, as dropping does, and returns the error.
+#[test]
+fn closing() {
+    let folder = Folder::new("closing");
+    let (path, other) = (folder.path("file"), folder.path("other"));
+    let mut file = create(&path).unwrap();
+    file.write(b"kept", 0).unwrap();
+    file.close().unwrap();
+    let mut file = open(&path).unwrap();
+    assert_eq!(read(&mut file), b"kept");
+    file.write(b"lost", 0).unwrap();
+    fs::rename(&path, &other).unwrap();
+    assert!(matches!(file.close(), Err(Error::Moved)));
+    assert_eq!(read(&mut open(&other).unwrap()), b"kept");
+}
+
 #[test]
 fn cursors() {
     let folder = Folder::new("cursors");
