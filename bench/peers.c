@@ -34,22 +34,20 @@ static void expect(int holds)
     }
 }
 
-#define OURS(NAME, VARIANT, KEY_BYTES)                                                             \
-    static void ours_##NAME(size_t length)                                                         \
-    {                                                                                              \
-        uint8_t tag[32];                                                                           \
-        expect(hunkravy_encrypt_in_place(VARIANT, buffer, length, NULL, 0, nonce, KEY_BYTES, key,  \
-                                         KEY_BYTES, tag, sizeof tag)                               \
-               == HUNKRAVY_OK);                                                                    \
+#define OURS(NAME, VARIANT, KEY_BYTES) \
+    static void ours_##NAME(size_t length) \
+    { \
+        uint8_t tag[32]; \
+        expect(hunkravy_encrypt_in_place(VARIANT, buffer, length, NULL, 0, nonce, KEY_BYTES, key, KEY_BYTES, tag, \
+                   sizeof tag) == HUNKRAVY_OK); \
     }
 
-#define SODIUM(NAME)                                                                               \
-    static void sodium_##NAME(size_t length)                                                       \
-    {                                                                                              \
-        uint8_t tag[32];                                                                           \
-        expect(crypto_aead_##NAME##_encrypt_detached(buffer, tag, NULL, buffer, length, NULL, 0,   \
-                                                     NULL, nonce, key)                             \
-               == 0);                                                                              \
+#define SODIUM(NAME) \
+    static void sodium_##NAME(size_t length) \
+    { \
+        uint8_t tag[32]; \
+        expect( \
+            crypto_aead_##NAME##_encrypt_detached(buffer, tag, NULL, buffer, length, NULL, 0, NULL, nonce, key) == 0); \
     }
 
 OURS(aegis128l, HUNKRAVY_AEGIS128L, 16)
@@ -128,6 +126,7 @@ int main(void)
     measure(software, sizeof software / sizeof software[0]);
     expect(sodium_init() >= 0 && crypto_aead_aes256gcm_is_available());
     measure(all, sizeof all / sizeof all[0]);
-    printf("libsodium %s, hunkravy at level %d, C compiler %s.\n", sodium_version_string(), hunkravy_level(), __VERSION__);
+    printf(
+        "libsodium %s, hunkravy at level %d, C compiler %s.\n", sodium_version_string(), hunkravy_level(), __VERSION__);
     return 0;
 }

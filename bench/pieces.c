@@ -15,8 +15,7 @@ int main(void)
     for (int turn = 0; turn < PIECES; turn++) {
         nonce[24] = (uint8_t)turn;
         if (hunkravy_encrypt_in_place(HUNKRAVY_AEGIS256, piece, sizeof piece, NULL, 0, nonce, sizeof nonce, key,
-                sizeof key, tag, sizeof tag)
-            != HUNKRAVY_OK) {
+                sizeof key, tag, sizeof tag) != HUNKRAVY_OK) {
             return EXIT_FAILURE;
         }
     }

@@ -116,6 +116,16 @@ check-header:
 	else \
 		echo 'left out: the headers by clang, which is not installed'; \
 	fi
+	if clang-format --version 2> /dev/null | grep -q 'version 14'; then \
+		clang-format --dry-run -Werror $$(git ls-files '*.c'); \
+	else \
+		echo 'left out: the layout of C, since clang-format 14 is not installed'; \
+	fi
+	if command -v shellcheck > /dev/null; then \
+		shellcheck -S warning $$(git ls-files '*.sh'); \
+	else \
+		echo 'left out: the shell programs by shellcheck, which is not installed'; \
+	fi
 
 # The C programs: the examples, and the tests but those with a rule of their own. They read the stored lines.
 C_TESTS = $(filter-out check_time check_wipe,$(basename $(notdir $(sort $(wildcard c/tests/*.c)))))

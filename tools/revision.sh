@@ -1,3 +1,4 @@
+# shellcheck shell=bash
 # The revision of this folder: that of git, if the folder is the top of a repository. A repository that git refuses to read,
 # as one of another owner, is an error, and not a folder without one.
 

@@ -32,9 +32,7 @@ static int encrypt_chunks(hunkravy_state *state, FILE *out, FILE *plain, uint8_t
             return -1;
         }
     }
-    return !ferror(plain) && hunkravy_state_encrypt_final(state, tag, TAG_BYTES) == HUNKRAVY_OK
-               ? 0
-               : -1;
+    return !ferror(plain) && hunkravy_state_encrypt_final(state, tag, TAG_BYTES) == HUNKRAVY_OK ? 0 : -1;
 }
 
 /*
@@ -47,19 +45,15 @@ static int encrypt_file(FILE *out, FILE *plain, const uint8_t *key)
     hunkravy_state state;
     int result;
 
-    if (getentropy(header, NONCE_BYTES) != 0 ||
-        fwrite(header, 1, HEADER_BYTES, out) != HEADER_BYTES ||
-        hunkravy_state_init(HUNKRAVY_AEGIS256, &state, NULL, 0, header, NONCE_BYTES, key,
-                            KEY_BYTES) != HUNKRAVY_OK) {
+    if (getentropy(header, NONCE_BYTES) != 0 || fwrite(header, 1, HEADER_BYTES, out) != HEADER_BYTES ||
+        hunkravy_state_init(HUNKRAVY_AEGIS256, &state, NULL, 0, header, NONCE_BYTES, key, KEY_BYTES) != HUNKRAVY_OK) {
         return -1;
     }
     result = encrypt_chunks(&state, out, plain, header + NONCE_BYTES);
     /* After an error the state has not ended. */
     hunkravy_wipe(&state, sizeof state);
     rewind(out);
-    return result == 0 && fwrite(header, 1, HEADER_BYTES, out) == HEADER_BYTES && fflush(out) == 0
-               ? 0
-               : -1;
+    return result == 0 && fwrite(header, 1, HEADER_BYTES, out) == HEADER_BYTES && fflush(out) == 0 ? 0 : -1;
 }
 
 /*
@@ -94,8 +88,7 @@ static int pass(FILE *out, FILE *encrypted, const uint8_t *key)
 
     rewind(encrypted);
     if (fread(header, 1, HEADER_BYTES, encrypted) != HEADER_BYTES ||
-        hunkravy_state_init(HUNKRAVY_AEGIS256, &state, NULL, 0, header, NONCE_BYTES, key,
-                            KEY_BYTES) != HUNKRAVY_OK) {
+        hunkravy_state_init(HUNKRAVY_AEGIS256, &state, NULL, 0, header, NONCE_BYTES, key, KEY_BYTES) != HUNKRAVY_OK) {
         return -1;
     }
     result = read_chunks(&state, out, encrypted, header + NONCE_BYTES);
@@ -146,8 +139,7 @@ int main(void)
     FILE *plain = tmpfile(), *encrypted = tmpfile(), *decrypted = tmpfile();
     int result;
 
-    if (plain == NULL || encrypted == NULL || decrypted == NULL ||
-        getentropy(key, sizeof key) != 0) {
+    if (plain == NULL || encrypted == NULL || decrypted == NULL || getentropy(key, sizeof key) != 0) {
         return EXIT_FAILURE;
     }
     result = try_files(plain, encrypted, decrypted, key);

@@ -54,21 +54,27 @@ static int put(int fd, const uint8_t *bytes, size_t length, uint64_t place)
     return pwrite(fd, bytes, length, (off_t)place) == (ssize_t)length;
 }
 
-static int emptied(int fd) { return ftruncate(fd, 0) == 0 && fsync(fd) == 0; }
+static int emptied(int fd)
+{
+    return ftruncate(fd, 0) == 0 && fsync(fd) == 0;
+}
 
 static int seal_header(const struct file *file, uint8_t *block, uint64_t counter, uint64_t length)
 {
     uint8_t nonce[NONCE_BYTES];
     return getentropy(nonce, sizeof nonce) == 0 &&
-        hunkravy_page_header_seal(VARIANT, block, SIZE, file->id, counter, length, nonce, NONCE_BYTES, file->key,
-            KEY_BYTES) == HUNKRAVY_OK;
+        hunkravy_page_header_seal(
+            VARIANT, block, SIZE, file->id, counter, length, nonce, NONCE_BYTES, file->key, KEY_BYTES) == HUNKRAVY_OK;
 }
 
 /*
  * Syncs a file, and has the system forget what it keeps of it in memory, so that reads return what the disk has. After a
  * sync that failed, Linux keeps other bytes, and ext4 may not keep what is written over them.
  */
-static int forgotten(int fd) { return fsync(fd) == 0 && posix_fadvise(fd, 0, 0, POSIX_FADV_DONTNEED) == 0; }
+static int forgotten(int fd)
+{
+    return fsync(fd) == 0 && posix_fadvise(fd, 0, 0, POSIX_FADV_DONTNEED) == 0;
+}
 
 /*
  * Replaces the journal with a copy that is synced. After a sync that failed, Linux returns bytes that the disk does not
@@ -112,10 +118,10 @@ static int recover(struct file *file, uint8_t *journal, size_t length)
     found = pread(file->fd, block, sizeof block, 0);
     return found >= 0 && get(file->journal, journal, length, 0) &&
         hunkravy_journal_check(VARIANT, block, (size_t)found, file->key, KEY_BYTES, journal, length, &left) ==
-            HUNKRAVY_OK &&
+        HUNKRAVY_OK &&
         fsync(file->fd) == 0 &&
-        (left == 0 || (write_again(file, journal, length) &&
-                          make_again(file, journal + HUNKRAVY_JOURNAL_START_BYTES, left))) &&
+        (left == 0 ||
+            (write_again(file, journal, length) && make_again(file, journal + HUNKRAVY_JOURNAL_START_BYTES, left))) &&
         emptied(file->journal);
 }
 
@@ -133,8 +139,9 @@ static int open_file(struct file *file)
         return 0;
     }
     int result = recover(file, journal, (size_t)length) && get(file->fd, block, sizeof block, 0) &&
-        hunkravy_page_header_open(VARIANT, block, file->key, KEY_BYTES, &size, file->id, &file->counter,
-            &file->length) == HUNKRAVY_OK && size == SIZE;
+        hunkravy_page_header_open(
+            VARIANT, block, file->key, KEY_BYTES, &size, file->id, &file->counter, &file->length) == HUNKRAVY_OK &&
+        size == SIZE;
     free(journal);
     return result;
 }

@@ -15,10 +15,10 @@ int main(void)
     uint8_t ciphertext[sizeof message + HUNKRAVY_LONG_TAG_BYTES], opened[sizeof message];
 
     if (getentropy(key, sizeof key) != 0 || getentropy(nonce, sizeof nonce) != 0 ||
-        hunkravy_encrypt_combined(HUNKRAVY_AEGIS256, ciphertext, message, sizeof message, header, sizeof header,
-                                  nonce, sizeof nonce, key, sizeof key, HUNKRAVY_LONG_TAG_BYTES) != HUNKRAVY_OK ||
+        hunkravy_encrypt_combined(HUNKRAVY_AEGIS256, ciphertext, message, sizeof message, header, sizeof header, nonce,
+            sizeof nonce, key, sizeof key, HUNKRAVY_LONG_TAG_BYTES) != HUNKRAVY_OK ||
         hunkravy_decrypt_combined(HUNKRAVY_AEGIS256, opened, ciphertext, sizeof ciphertext, header, sizeof header,
-                                  nonce, sizeof nonce, key, sizeof key, HUNKRAVY_LONG_TAG_BYTES) != HUNKRAVY_OK) {
+            nonce, sizeof nonce, key, sizeof key, HUNKRAVY_LONG_TAG_BYTES) != HUNKRAVY_OK) {
         return 1; /* no random bytes, or something was changed */
     }
     return memcmp(opened, message, sizeof message) != 0;

@@ -28,16 +28,16 @@ int main(void)
     }
     crypto_aead_aegis256_keygen(key);
     randombytes_buf(nonce, sizeof nonce);
-    crypto_aead_aegis256_encrypt(ciphertext, &ciphertext_len, MESSAGE, MESSAGE_LEN, ADDITIONAL_DATA,
-                                 ADDITIONAL_DATA_LEN, NULL, nonce, key);
-    if (crypto_aead_aegis256_decrypt(decrypted, &decrypted_len, NULL, ciphertext, ciphertext_len,
-                                     ADDITIONAL_DATA, ADDITIONAL_DATA_LEN, nonce, key) != 0 ||
+    crypto_aead_aegis256_encrypt(
+        ciphertext, &ciphertext_len, MESSAGE, MESSAGE_LEN, ADDITIONAL_DATA, ADDITIONAL_DATA_LEN, NULL, nonce, key);
+    if (crypto_aead_aegis256_decrypt(decrypted, &decrypted_len, NULL, ciphertext, ciphertext_len, ADDITIONAL_DATA,
+            ADDITIONAL_DATA_LEN, nonce, key) != 0 ||
         decrypted_len != MESSAGE_LEN || memcmp(decrypted, MESSAGE, MESSAGE_LEN) != 0) {
         return EXIT_FAILURE;
     }
     ciphertext[0] ^= 1;
-    if (crypto_aead_aegis256_decrypt(decrypted, &decrypted_len, NULL, ciphertext, ciphertext_len,
-                                     ADDITIONAL_DATA, ADDITIONAL_DATA_LEN, nonce, key) == 0) {
+    if (crypto_aead_aegis256_decrypt(decrypted, &decrypted_len, NULL, ciphertext, ciphertext_len, ADDITIONAL_DATA,
+            ADDITIONAL_DATA_LEN, nonce, key) == 0) {
         return EXIT_FAILURE;
     }
     sodium_memzero(key, sizeof key);

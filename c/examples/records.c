@@ -74,12 +74,10 @@ static int seal(FILE *out, FILE *in, const uint8_t *key)
     int result;
 
     if (getentropy(begin, PREFIX_BYTES) != 0 ||
-        hunkravy_record_begin(&stream, key, begin, CONTEXT, sizeof CONTEXT, begin + PREFIX_BYTES) !=
-            HUNKRAVY_OK) {
+        hunkravy_record_begin(&stream, key, begin, CONTEXT, sizeof CONTEXT, begin + PREFIX_BYTES) != HUNKRAVY_OK) {
         return -1;
     }
-    result =
-        fwrite(begin, 1, sizeof begin, out) == sizeof begin ? seal_pieces(&stream, out, in) : -1;
+    result = fwrite(begin, 1, sizeof begin, out) == sizeof begin ? seal_pieces(&stream, out, in) : -1;
     /* After an error the stream has not ended. */
     hunkravy_wipe(&stream, sizeof stream);
     return result;
@@ -90,9 +88,8 @@ static size_t read_record(const hunkravy_record_stream *stream, FILE *in)
 {
     size_t length;
 
-    if (fread(record, 1, HEAD_BYTES, in) != HEAD_BYTES ||
-        hunkravy_record_len(stream, record, &length) != HUNKRAVY_OK || length > sizeof record ||
-        fread(piece, 1, length - HEAD_BYTES, in) != length - HEAD_BYTES) {
+    if (fread(record, 1, HEAD_BYTES, in) != HEAD_BYTES || hunkravy_record_len(stream, record, &length) != HUNKRAVY_OK ||
+        length > sizeof record || fread(piece, 1, length - HEAD_BYTES, in) != length - HEAD_BYTES) {
         return 0;
     }
     return length;
@@ -106,8 +103,7 @@ static int open_pieces(hunkravy_record_stream *stream, FILE *out, FILE *in)
 
     do {
         length = read_record(stream, in);
-        if (length == 0 ||
-            hunkravy_record_open(stream, record, length, &length, &is_last) != HUNKRAVY_OK ||
+        if (length == 0 || hunkravy_record_open(stream, record, length, &length, &is_last) != HUNKRAVY_OK ||
             fwrite(piece, 1, length, out) != length) {
             return -1;
         }
@@ -123,8 +119,7 @@ static int open_sealed(FILE *out, FILE *in, const uint8_t *key)
     int result;
 
     if (fread(begin, 1, sizeof begin, in) != sizeof begin ||
-        hunkravy_record_begin_open(&stream, key, begin, CONTEXT, sizeof CONTEXT,
-                                   begin + PREFIX_BYTES) != HUNKRAVY_OK) {
+        hunkravy_record_begin_open(&stream, key, begin, CONTEXT, sizeof CONTEXT, begin + PREFIX_BYTES) != HUNKRAVY_OK) {
         return -1;
     }
     result = open_pieces(&stream, out, in);
@@ -165,8 +160,7 @@ static int try_changed(FILE *plain, const uint8_t *key, long at)
     int result = -1;
 
     rewind(plain);
-    if (sealed != NULL && opened != NULL && seal(sealed, plain, key) == 0 &&
-        fseek(sealed, at, SEEK_END) == 0) {
+    if (sealed != NULL && opened != NULL && seal(sealed, plain, key) == 0 && fseek(sealed, at, SEEK_END) == 0) {
         int byte = at < 0 ? getc(sealed) : 0;
         fseek(sealed, at, SEEK_END);
         putc(byte ^ 1, sealed);
@@ -210,9 +204,9 @@ static int try_all(FILE *plain, FILE *opened, const uint8_t *key)
     }
     /* A byte of the last tag, one of an earlier record, and one more at the end. */
     return try_changed(plain, key, -1) == 0 && try_changed(plain, key, -PIECE_BYTES) == 0 &&
-                   try_changed(plain, key, 0) == 0
-               ? 0
-               : -1;
+            try_changed(plain, key, 0) == 0
+        ? 0
+        : -1;
 }
 
 static int read_key(uint8_t *key, const char *name)
@@ -234,9 +228,9 @@ int main(int count, char **arguments)
 
     if (count == 3) {
         if (read_key(key, arguments[2]) == 0) {
-            result = strcmp(arguments[1], "seal") == 0   ? seal(stdout, stdin, key)
-                     : strcmp(arguments[1], "open") == 0 ? open_sealed(stdout, stdin, key)
-                                                         : -1;
+            result = strcmp(arguments[1], "seal") == 0 ? seal(stdout, stdin, key)
+                : strcmp(arguments[1], "open") == 0    ? open_sealed(stdout, stdin, key)
+                                                       : -1;
         }
         if (result != 0) {
             fputs("records: failed: check the command, KEYFILE, input and output\n", stderr);

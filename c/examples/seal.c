@@ -29,9 +29,8 @@ static int seal_packet(uint8_t *packet, const uint8_t *message, size_t length, c
     if (getentropy(packet, NONCE_BYTES) != 0) {
         return -1;
     }
-    if (hunkravy_encrypt_combined(HUNKRAVY_AEGIS256, packet + NONCE_BYTES, message, length, CONTEXT,
-                                  sizeof CONTEXT, packet, NONCE_BYTES, key,
-                                  HUNKRAVY_AEGIS256_KEY_BYTES, TAG_BYTES) != HUNKRAVY_OK) {
+    if (hunkravy_encrypt_combined(HUNKRAVY_AEGIS256, packet + NONCE_BYTES, message, length, CONTEXT, sizeof CONTEXT,
+            packet, NONCE_BYTES, key, HUNKRAVY_AEGIS256_KEY_BYTES, TAG_BYTES) != HUNKRAVY_OK) {
         return -1;
     }
     return 0;
@@ -46,10 +45,8 @@ static int open_packet(uint8_t *message, const uint8_t *packet, size_t length, c
     if (length < PACKET_BYTES(0)) {
         return -1;
     }
-    if (hunkravy_decrypt_combined(HUNKRAVY_AEGIS256, message, packet + NONCE_BYTES,
-                                  length - NONCE_BYTES, CONTEXT, sizeof CONTEXT, packet,
-                                  NONCE_BYTES, key, HUNKRAVY_AEGIS256_KEY_BYTES,
-                                  TAG_BYTES) != HUNKRAVY_OK) {
+    if (hunkravy_decrypt_combined(HUNKRAVY_AEGIS256, message, packet + NONCE_BYTES, length - NONCE_BYTES, CONTEXT,
+            sizeof CONTEXT, packet, NONCE_BYTES, key, HUNKRAVY_AEGIS256_KEY_BYTES, TAG_BYTES) != HUNKRAVY_OK) {
         return -1;
     }
     return 0;
@@ -63,8 +60,7 @@ static int try_packet(const uint8_t *key)
     uint8_t opened[sizeof message];
 
     if (seal_packet(packet, message, sizeof message, key) != 0 ||
-        open_packet(opened, packet, sizeof packet, key) != 0 ||
-        memcmp(opened, message, sizeof message) != 0) {
+        open_packet(opened, packet, sizeof packet, key) != 0 || memcmp(opened, message, sizeof message) != 0) {
         return -1;
     }
     packet[NONCE_BYTES] ^= 1;

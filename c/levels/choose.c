@@ -27,8 +27,8 @@ int hunkravy_level(void)
 }
 
 #define HIDDEN __attribute__((visibility("hidden")))
-#define EXPORT(NAME)                                                                               \
-    HIDDEN void hunkravy_v2_##NAME(void);                                                          \
+#define EXPORT(NAME) \
+    HIDDEN void hunkravy_v2_##NAME(void); \
     HIDDEN void hunkravy_v3_##NAME(void);
 #include "exports.h"
 #undef EXPORT
@@ -61,11 +61,11 @@ __attribute__((constructor)) static void choose(void)
     (void)mprotect(&hunkravy_chosen, sizeof hunkravy_chosen, PROT_READ);
 }
 
-#define EXPORT(NAME)                                                                               \
-    void hunkravy_##NAME(void);                                                                    \
-    __attribute__((naked)) void hunkravy_##NAME(void)                                              \
-    {                                                                                              \
-        __asm__("jmp *hunkravy_chosen+%c0(%%rip)" : : "i"(offsetof(struct functions, NAME)));      \
+#define EXPORT(NAME) \
+    void hunkravy_##NAME(void); \
+    __attribute__((naked)) void hunkravy_##NAME(void) \
+    { \
+        __asm__("jmp *hunkravy_chosen+%c0(%%rip)" : : "i"(offsetof(struct functions, NAME))); \
     }
 #include "exports.h"
 

@@ -59,6 +59,7 @@ else
     exports "$work/v2.o" | sed 's/^hunkravy_\(.*\)/EXPORT(\1)/' > "$work/exports.h"
     for level in v2 v3; do
         exports "$work/$level.o" | sed "s/^hunkravy_\(.*\)/& hunkravy_${level}_\1/" > "$work/names"
+        # shellcheck disable=SC2046
         "${OBJCOPY:-objcopy}" --redefine-syms="$work/names" $(sections $level) "$work/$level.o"
     done
     set -- "-I$work"

@@ -27,39 +27,42 @@ size_t hunkravy_key_bytes(uint32_t variant)
 int hunkravy_encrypt_in_place(uint32_t variant, uint8_t *mc, size_t mclen, const uint8_t *ad, size_t adlen,
     const uint8_t *npub, size_t npublen, const uint8_t *k, size_t klen, uint8_t *mac, size_t maclen)
 {
-    return hunkravy_proved_encrypt_in_place(variant, OUT(mc, mclen), IN(ad, adlen), IN(npub, npublen), IN(k, klen),
-        OUT(mac, maclen));
+    return hunkravy_proved_encrypt_in_place(
+        variant, OUT(mc, mclen), IN(ad, adlen), IN(npub, npublen), IN(k, klen), OUT(mac, maclen));
 }
 
 int hunkravy_decrypt_in_place(uint32_t variant, uint8_t *mc, size_t mclen, const uint8_t *ad, size_t adlen,
     const uint8_t *npub, size_t npublen, const uint8_t *k, size_t klen, const uint8_t *mac, size_t maclen)
 {
-    return hunkravy_proved_decrypt_in_place(variant, OUT(mc, mclen), IN(ad, adlen), IN(npub, npublen), IN(k, klen),
-        IN(mac, maclen));
+    return hunkravy_proved_decrypt_in_place(
+        variant, OUT(mc, mclen), IN(ad, adlen), IN(npub, npublen), IN(k, klen), IN(mac, maclen));
 }
 
 int hunkravy_encrypt(uint32_t variant, uint8_t *c, const uint8_t *m, size_t mlen, const uint8_t *ad, size_t adlen,
     const uint8_t *npub, size_t npublen, const uint8_t *k, size_t klen, uint8_t *mac, size_t maclen)
 {
     int code = hunkravy_proved_check_lengths(variant, npublen, klen, mlen, adlen, maclen);
-    return code != HUNKRAVY_OK ? code : hunkravy_encrypt_in_place(variant, copy(c, m, mlen), mlen, ad, adlen, npub,
-        npublen, k, klen, mac, maclen);
+    return code != HUNKRAVY_OK
+        ? code
+        : hunkravy_encrypt_in_place(variant, copy(c, m, mlen), mlen, ad, adlen, npub, npublen, k, klen, mac, maclen);
 }
 
 int hunkravy_decrypt(uint32_t variant, uint8_t *m, const uint8_t *c, size_t clen, const uint8_t *ad, size_t adlen,
     const uint8_t *npub, size_t npublen, const uint8_t *k, size_t klen, const uint8_t *mac, size_t maclen)
 {
     int code = hunkravy_proved_check_lengths(variant, npublen, klen, clen, adlen, maclen);
-    return code != HUNKRAVY_OK ? code : hunkravy_decrypt_in_place(variant, copy(m, c, clen), clen, ad, adlen, npub,
-        npublen, k, klen, mac, maclen);
+    return code != HUNKRAVY_OK
+        ? code
+        : hunkravy_decrypt_in_place(variant, copy(m, c, clen), clen, ad, adlen, npub, npublen, k, klen, mac, maclen);
 }
 
 int hunkravy_encrypt_combined(uint32_t variant, uint8_t *c, const uint8_t *m, size_t mlen, const uint8_t *ad,
     size_t adlen, const uint8_t *npub, size_t npublen, const uint8_t *k, size_t klen, size_t maclen)
 {
     int code = hunkravy_proved_check_lengths(variant, npublen, klen, mlen, adlen, maclen);
-    return code != HUNKRAVY_OK ? code : hunkravy_encrypt_in_place(variant, copy(c, m, mlen), mlen, ad, adlen, npub,
-        npublen, k, klen, c + mlen, maclen);
+    return code != HUNKRAVY_OK ? code
+                               : hunkravy_encrypt_in_place(variant, copy(c, m, mlen), mlen, ad, adlen, npub, npublen, k,
+                                     klen, c + mlen, maclen);
 }
 
 int hunkravy_decrypt_combined(uint32_t variant, uint8_t *m, const uint8_t *c, size_t clen, const uint8_t *ad,
@@ -70,8 +73,9 @@ int hunkravy_decrypt_combined(uint32_t variant, uint8_t *m, const uint8_t *c, si
     if (code == HUNKRAVY_OK && clen < maclen) {
         code = HUNKRAVY_INVALID_TAG;
     }
-    return code != HUNKRAVY_OK ? code : hunkravy_decrypt_in_place(variant, copy(m, c, mlen), mlen, ad, adlen, npub,
-        npublen, k, klen, c + mlen, maclen);
+    return code != HUNKRAVY_OK ? code
+                               : hunkravy_decrypt_in_place(variant, copy(m, c, mlen), mlen, ad, adlen, npub, npublen, k,
+                                     klen, c + mlen, maclen);
 }
 
 int hunkravy_verify(uint32_t variant, const uint8_t *c, size_t clen, const uint8_t *ad, size_t adlen,
@@ -148,8 +152,8 @@ int hunkravy_mac_verify(uint32_t variant, const uint8_t *input, size_t inputlen,
     return hunkravy_proved_mac_verify(variant, IN(input, inputlen), IN(npub, npublen), IN(k, klen), IN(mac, maclen));
 }
 
-int hunkravy_mac_init(uint32_t variant, hunkravy_state *st, const uint8_t *npub, size_t npublen, const uint8_t *k,
-    size_t klen)
+int hunkravy_mac_init(
+    uint32_t variant, hunkravy_state *st, const uint8_t *npub, size_t npublen, const uint8_t *k, size_t klen)
 {
     memset(st, 0, sizeof *st);
     return hunkravy_proved_mac_init(variant, st->opaque, IN(npub, npublen), IN(k, klen));
@@ -170,14 +174,14 @@ int hunkravy_mac_final_verify(const hunkravy_state *st, const uint8_t *mac, size
     return hunkravy_proved_mac_final_verify(st->opaque, IN(mac, maclen));
 }
 
-int hunkravy_stream(uint32_t variant, uint8_t *out, size_t len, const uint8_t *npub, size_t npublen, const uint8_t *k,
-    size_t klen)
+int hunkravy_stream(
+    uint32_t variant, uint8_t *out, size_t len, const uint8_t *npub, size_t npublen, const uint8_t *k, size_t klen)
 {
     return hunkravy_proved_stream(variant, OUT(out, len), IN(npub, npublen), IN(k, klen));
 }
 
-int hunkravy_stream_xor_in_place(uint32_t variant, uint8_t *mc, size_t mclen, const uint8_t *npub, size_t npublen,
-    const uint8_t *k, size_t klen)
+int hunkravy_stream_xor_in_place(
+    uint32_t variant, uint8_t *mc, size_t mclen, const uint8_t *npub, size_t npublen, const uint8_t *k, size_t klen)
 {
     return hunkravy_proved_stream_xor_in_place(variant, OUT(mc, mclen), IN(npub, npublen), IN(k, klen));
 }
@@ -187,6 +191,6 @@ int hunkravy_stream_xor(uint32_t variant, uint8_t *c, const uint8_t *m, size_t m
 {
     /* A keystream has any length, and no tag. */
     int code = hunkravy_proved_check_lengths(variant, npublen, klen, 0, 0, HUNKRAVY_SHORT_TAG_BYTES);
-    return code != HUNKRAVY_OK ? code : hunkravy_stream_xor_in_place(variant, copy(c, m, mlen), mlen, npub, npublen, k,
-        klen);
+    return code != HUNKRAVY_OK ? code
+                               : hunkravy_stream_xor_in_place(variant, copy(c, m, mlen), mlen, npub, npublen, k, klen);
 }

@@ -20,8 +20,8 @@ int hunkravy_page_seal(uint32_t variant, uint8_t *page, size_t pagelen, const ui
     return hunkravy_proved_page_seal(variant, OUT(page, pagelen), id, number, IN(npub, npublen), IN(k, klen));
 }
 
-int hunkravy_page_open(uint32_t variant, uint8_t *page, size_t pagelen, const uint8_t *id, uint64_t number,
-    const uint8_t *k, size_t klen)
+int hunkravy_page_open(
+    uint32_t variant, uint8_t *page, size_t pagelen, const uint8_t *id, uint64_t number, const uint8_t *k, size_t klen)
 {
     return hunkravy_proved_page_open(variant, OUT(page, pagelen), id, number, IN(k, klen));
 }
@@ -29,8 +29,8 @@ int hunkravy_page_open(uint32_t variant, uint8_t *page, size_t pagelen, const ui
 int hunkravy_page_header_seal(uint32_t variant, uint8_t *header_block, uint32_t page_size, const uint8_t *id,
     uint64_t counter, uint64_t contentslen, const uint8_t *npub, size_t npublen, const uint8_t *k, size_t klen)
 {
-    return hunkravy_proved_page_header_seal(variant, header_block, page_size, id, counter, contentslen,
-        IN(npub, npublen), IN(k, klen));
+    return hunkravy_proved_page_header_seal(
+        variant, header_block, page_size, id, counter, contentslen, IN(npub, npublen), IN(k, klen));
 }
 
 int hunkravy_page_header_open(uint32_t variant, const uint8_t *header_block, const uint8_t *k, size_t klen,

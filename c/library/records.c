@@ -30,8 +30,8 @@ int hunkravy_record_begin(hunkravy_record_stream *st, const uint8_t *k, const ui
     size_t contextlen, uint8_t *header)
 {
     memset(st, 0, sizeof *st);
-    return keep(st, context, contextlen,
-        hunkravy_proved_record_begin(st->opaque, k, prefix, IN(context, contextlen), header));
+    return keep(
+        st, context, contextlen, hunkravy_proved_record_begin(st->opaque, k, prefix, IN(context, contextlen), header));
 }
 
 int hunkravy_record_begin_open(hunkravy_record_stream *st, const uint8_t *k, const uint8_t *prefix,
@@ -57,8 +57,8 @@ int hunkravy_record_seal(hunkravy_record_stream *st, uint8_t *record, size_t mle
 
 int hunkravy_record_seal_last(hunkravy_record_stream *st, uint8_t *record, size_t mlen)
 {
-    int code = hunkravy_proved_record_seal_last(st->opaque, IN(st->context, st->contextlen), record,
-        record_bytes(mlen));
+    int code =
+        hunkravy_proved_record_seal_last(st->opaque, IN(st->context, st->contextlen), record, record_bytes(mlen));
     return keep(st, NULL, 0, code);
 }
 

@@ -48,24 +48,19 @@ static void check_seal(const struct line *line)
     uint8_t *c = filled(length, 0x55), *mac = filled(maclen, 0);
     uint8_t *both = filled(length + maclen, 0x55);
 
-    HOLDS(hunkravy_encrypt(given.variant, c, given.text, length, CONTEXT(given), mac, maclen) ==
-          HUNKRAVY_OK);
+    HOLDS(hunkravy_encrypt(given.variant, c, given.text, length, CONTEXT(given), mac, maclen) == HUNKRAVY_OK);
     HOLDS(are_equal(c, expected, length) && are_equal(mac, tag, maclen));
-    HOLDS(hunkravy_encrypt_combined(given.variant, both, given.text, length, CONTEXT(given),
-                                    maclen) == HUNKRAVY_OK);
+    HOLDS(hunkravy_encrypt_combined(given.variant, both, given.text, length, CONTEXT(given), maclen) == HUNKRAVY_OK);
     HOLDS(are_equal(both, expected, length) && are_equal(both + length, tag, maclen));
     HOLDS(are_equal(given.text, line->text.at, length));
     memset(mac, 0, maclen);
-    HOLDS(hunkravy_encrypt_in_place(given.variant, given.text, length, CONTEXT(given), mac,
-                                    maclen) == HUNKRAVY_OK);
+    HOLDS(hunkravy_encrypt_in_place(given.variant, given.text, length, CONTEXT(given), mac, maclen) == HUNKRAVY_OK);
     HOLDS(are_equal(given.text, expected, length) && are_equal(mac, tag, maclen));
     /* From and to the same pointer. */
-    HOLDS(hunkravy_decrypt_combined(given.variant, both, both, length + maclen, CONTEXT(given),
-                                    maclen) == HUNKRAVY_OK);
+    HOLDS(hunkravy_decrypt_combined(given.variant, both, both, length + maclen, CONTEXT(given), maclen) == HUNKRAVY_OK);
     HOLDS(are_equal(both, line->text.at, length));
     memset(mac, 0, maclen);
-    HOLDS(hunkravy_encrypt(given.variant, both, both, length, CONTEXT(given), mac, maclen) ==
-          HUNKRAVY_OK);
+    HOLDS(hunkravy_encrypt(given.variant, both, both, length, CONTEXT(given), mac, maclen) == HUNKRAVY_OK);
     HOLDS(are_equal(both, expected, length) && are_equal(mac, tag, maclen));
     free(c);
     free(mac);
@@ -88,14 +83,11 @@ static void check_open(const struct line *line)
         memcpy(expected, line->answer[0].at, length);
     }
     HOLDS(hunkravy_verify(given.variant, given.text, length, CONTEXT(given), mac, maclen) == code);
-    HOLDS(hunkravy_decrypt(given.variant, m, given.text, length, CONTEXT(given), mac, maclen) ==
-          code);
+    HOLDS(hunkravy_decrypt(given.variant, m, given.text, length, CONTEXT(given), mac, maclen) == code);
     HOLDS(are_equal(m, expected, length) && are_equal(given.text, line->text.at, length));
-    HOLDS(hunkravy_decrypt_combined(given.variant, other, both, length + maclen, CONTEXT(given),
-                                    maclen) == code);
+    HOLDS(hunkravy_decrypt_combined(given.variant, other, both, length + maclen, CONTEXT(given), maclen) == code);
     HOLDS(are_equal(other, expected, length) && are_equal(both, line->text.at, length));
-    HOLDS(hunkravy_decrypt_in_place(given.variant, given.text, length, CONTEXT(given), mac,
-                                    maclen) == code);
+    HOLDS(hunkravy_decrypt_in_place(given.variant, given.text, length, CONTEXT(given), mac, maclen) == code);
     HOLDS(are_equal(given.text, expected, length));
     HOLDS(hunkravy_decrypt(given.variant, both, both, length, CONTEXT(given), mac, maclen) == code);
     HOLDS(are_equal(both, expected, length) && are_equal(both + length, mac, maclen));
@@ -124,12 +116,10 @@ static void check_xor(const struct line *line)
     struct given given = given_of(line);
     uint8_t *c = filled(given.length, 0x55);
 
-    HOLDS(hunkravy_stream_xor(given.variant, c, given.text, given.length, KEYS(given)) ==
-          HUNKRAVY_OK);
+    HOLDS(hunkravy_stream_xor(given.variant, c, given.text, given.length, KEYS(given)) == HUNKRAVY_OK);
     HOLDS(are_equal(c, line->answer[0].at, given.length));
     HOLDS(are_equal(given.text, line->text.at, given.length));
-    HOLDS(hunkravy_stream_xor_in_place(given.variant, given.text, given.length, KEYS(given)) ==
-          HUNKRAVY_OK);
+    HOLDS(hunkravy_stream_xor_in_place(given.variant, given.text, given.length, KEYS(given)) == HUNKRAVY_OK);
     HOLDS(are_equal(given.text, c, given.length));
     free(c);
     drop(given);
@@ -141,14 +131,12 @@ static void check_mac(const struct line *line)
     size_t maclen = line->number;
     uint8_t *mac = filled(maclen, 0);
 
-    HOLDS(hunkravy_mac(given.variant, given.text, given.length, KEYS(given), mac, maclen) ==
-          HUNKRAVY_OK);
+    HOLDS(hunkravy_mac(given.variant, given.text, given.length, KEYS(given), mac, maclen) == HUNKRAVY_OK);
     HOLDS(are_equal(mac, line->answer[0].at, maclen));
-    HOLDS(hunkravy_mac_verify(given.variant, given.text, given.length, KEYS(given), mac, maclen) ==
-          HUNKRAVY_OK);
+    HOLDS(hunkravy_mac_verify(given.variant, given.text, given.length, KEYS(given), mac, maclen) == HUNKRAVY_OK);
     change_a_bit(mac, maclen);
-    HOLDS(hunkravy_mac_verify(given.variant, given.text, given.length, KEYS(given), mac, maclen) ==
-          HUNKRAVY_INVALID_TAG);
+    HOLDS(
+        hunkravy_mac_verify(given.variant, given.text, given.length, KEYS(given), mac, maclen) == HUNKRAVY_INVALID_TAG);
     free(mac);
     drop(given);
 }
@@ -181,22 +169,14 @@ static void check_refused(uint32_t variant, size_t npublen, size_t klen, size_t 
 
     memset(bytes, 0x55, sizeof bytes);
     memset(out, 0x66, sizeof out);
-    HOLDS(hunkravy_encrypt_in_place(variant, bytes, 20, NULL, 0, npub, npublen, k, klen, mac,
-                                    maclen) == code);
-    HOLDS(hunkravy_decrypt_in_place(variant, bytes, 20, NULL, 0, npub, npublen, k, klen, mac,
-                                    maclen) == code);
-    HOLDS(hunkravy_encrypt(variant, out, bytes, 20, NULL, 0, npub, npublen, k, klen, mac, maclen) ==
-          code);
-    HOLDS(hunkravy_decrypt(variant, out, bytes, 20, NULL, 0, npub, npublen, k, klen, mac, maclen) ==
-          code);
-    HOLDS(hunkravy_encrypt_combined(variant, out, bytes, 20, NULL, 0, npub, npublen, k, klen,
-                                    maclen) == code);
-    HOLDS(hunkravy_decrypt_combined(variant, out, bytes, 20 + maclen, NULL, 0, npub, npublen, k,
-                                    klen, maclen) == code);
-    HOLDS(hunkravy_decrypt_combined(variant, out, bytes, maclen / 2, NULL, 0, npub, npublen, k,
-                                    klen, maclen) == code);
-    HOLDS(hunkravy_verify(variant, bytes, 20, NULL, 0, npub, npublen, k, klen, mac, maclen) ==
-          code);
+    HOLDS(hunkravy_encrypt_in_place(variant, bytes, 20, NULL, 0, npub, npublen, k, klen, mac, maclen) == code);
+    HOLDS(hunkravy_decrypt_in_place(variant, bytes, 20, NULL, 0, npub, npublen, k, klen, mac, maclen) == code);
+    HOLDS(hunkravy_encrypt(variant, out, bytes, 20, NULL, 0, npub, npublen, k, klen, mac, maclen) == code);
+    HOLDS(hunkravy_decrypt(variant, out, bytes, 20, NULL, 0, npub, npublen, k, klen, mac, maclen) == code);
+    HOLDS(hunkravy_encrypt_combined(variant, out, bytes, 20, NULL, 0, npub, npublen, k, klen, maclen) == code);
+    HOLDS(hunkravy_decrypt_combined(variant, out, bytes, 20 + maclen, NULL, 0, npub, npublen, k, klen, maclen) == code);
+    HOLDS(hunkravy_decrypt_combined(variant, out, bytes, maclen / 2, NULL, 0, npub, npublen, k, klen, maclen) == code);
+    HOLDS(hunkravy_verify(variant, bytes, 20, NULL, 0, npub, npublen, k, klen, mac, maclen) == code);
     HOLDS(hunkravy_mac(variant, bytes, 20, npub, npublen, k, klen, mac, maclen) == code);
     HOLDS(hunkravy_mac_verify(variant, bytes, 20, npub, npublen, k, klen, mac, maclen) == code);
     if (code != HUNKRAVY_WRONG_TAG_LENGTH) {
@@ -220,24 +200,18 @@ static void check_long_and_short(uint32_t variant, size_t n)
     const size_t most = (size_t)HUNKRAVY_MAX_BYTES;
     uint8_t bytes[64] = {0}, k[32] = {0}, mac[32] = {0};
 
-    HOLDS(hunkravy_encrypt(variant, bytes, bytes, SIZE_MAX, NULL, 0, k, n, k, n, mac, 16) ==
-          HUNKRAVY_MESSAGE_TOO_LONG);
+    HOLDS(hunkravy_encrypt(variant, bytes, bytes, SIZE_MAX, NULL, 0, k, n, k, n, mac, 16) == HUNKRAVY_MESSAGE_TOO_LONG);
     HOLDS(hunkravy_encrypt_combined(variant, bytes, bytes, SIZE_MAX, NULL, 0, k, n, k, n, 16) ==
-          HUNKRAVY_MESSAGE_TOO_LONG);
-    HOLDS(hunkravy_decrypt(variant, bytes, bytes, 64, bytes, most + 1, k, n, k, n, mac, 32) ==
-          HUNKRAVY_DATA_TOO_LONG);
+        HUNKRAVY_MESSAGE_TOO_LONG);
+    HOLDS(hunkravy_decrypt(variant, bytes, bytes, 64, bytes, most + 1, k, n, k, n, mac, 32) == HUNKRAVY_DATA_TOO_LONG);
     HOLDS(hunkravy_decrypt_combined(variant, bytes, bytes, 15, bytes, most + 1, k, n, k, n, 16) ==
-          HUNKRAVY_DATA_TOO_LONG);
-    HOLDS(hunkravy_decrypt_combined(variant, bytes, bytes, SIZE_MAX / 2 + 17, NULL, 0, k, n, k, n,
-                                    16) == HUNKRAVY_MESSAGE_TOO_LONG);
-    HOLDS(hunkravy_verify(variant, bytes, SIZE_MAX, bytes, SIZE_MAX, k, n, k, n, mac, 17) ==
-          HUNKRAVY_MESSAGE_TOO_LONG);
-    HOLDS(hunkravy_verify(variant, bytes, 64, bytes, SIZE_MAX, k, n, k, n, mac, 17) ==
-          HUNKRAVY_DATA_TOO_LONG);
-    HOLDS(hunkravy_decrypt_combined(variant, bytes, bytes, 15, NULL, 0, k, n, k, n, 16) ==
-          HUNKRAVY_INVALID_TAG);
-    HOLDS(hunkravy_decrypt_combined(variant, NULL, NULL, 0, NULL, 0, k, n, k, n, 32) ==
-          HUNKRAVY_INVALID_TAG);
+        HUNKRAVY_DATA_TOO_LONG);
+    HOLDS(hunkravy_decrypt_combined(variant, bytes, bytes, SIZE_MAX / 2 + 17, NULL, 0, k, n, k, n, 16) ==
+        HUNKRAVY_MESSAGE_TOO_LONG);
+    HOLDS(hunkravy_verify(variant, bytes, SIZE_MAX, bytes, SIZE_MAX, k, n, k, n, mac, 17) == HUNKRAVY_MESSAGE_TOO_LONG);
+    HOLDS(hunkravy_verify(variant, bytes, 64, bytes, SIZE_MAX, k, n, k, n, mac, 17) == HUNKRAVY_DATA_TOO_LONG);
+    HOLDS(hunkravy_decrypt_combined(variant, bytes, bytes, 15, NULL, 0, k, n, k, n, 16) == HUNKRAVY_INVALID_TAG);
+    HOLDS(hunkravy_decrypt_combined(variant, NULL, NULL, 0, NULL, 0, k, n, k, n, 32) == HUNKRAVY_INVALID_TAG);
     HOLDS(all_are(bytes, sizeof bytes, 0));
 }
 
@@ -284,23 +258,20 @@ static void check_texts(void)
         const char *text;
     } TEXTS[] = {
         {HUNKRAVY_OK, "success"},
-        {HUNKRAVY_INVALID_TAG,
-         "invalid tag: the data, the key, the nonce or the associated data is wrong"},
+        {HUNKRAVY_INVALID_TAG, "invalid tag: the data, the key, the nonce or the associated data is wrong"},
         {HUNKRAVY_WRONG_NONCE_LENGTH, "wrong nonce length for this variant"},
         {HUNKRAVY_WRONG_KEY_LENGTH, "wrong key length for this variant"},
         {HUNKRAVY_MESSAGE_TOO_LONG, "the message is too long"},
         {HUNKRAVY_DATA_TOO_LONG, "the associated data are too long"},
         {HUNKRAVY_WRONG_TAG_LENGTH, "the tag length must be 16 or 32 bytes"},
-        {HUNKRAVY_WRONG_STATE,
-         "the state has ended, was not initialised, or belongs to other functions"},
+        {HUNKRAVY_WRONG_STATE, "the state has ended, was not initialised, or belongs to other functions"},
         {HUNKRAVY_WRONG_VARIANT, "unknown variant"},
         {HUNKRAVY_CONTEXT_TOO_LONG, "the context is too long"},
         {HUNKRAVY_UNKNOWN_HEADER, "unknown record stream header"},
         {HUNKRAVY_WRONG_RECORD_LENGTH, "the record is shorter than its head and tag"},
         {HUNKRAVY_WRONG_PAGE_SIZE, "the page size must be 256 to 65,536 bytes"},
         {HUNKRAVY_FILE_TOO_LONG, "the contents or the page number are too large"},
-        {HUNKRAVY_WRONG_MESSAGE_LENGTH,
-         "the length is neither 0 nor that of the decrypted message"},
+        {HUNKRAVY_WRONG_MESSAGE_LENGTH, "the length is neither 0 nor that of the decrypted message"},
         {HUNKRAVY_WRONG_JOURNAL, "the journal is of another file, or of another state of this one"},
         {-16, "unknown error code"},
     };
@@ -337,8 +308,8 @@ static void check_version(void)
 {
     char version[32];
 
-    snprintf(version, sizeof version, "%d.%d.%d", HUNKRAVY_VERSION_MAJOR, HUNKRAVY_VERSION_MINOR,
-             HUNKRAVY_VERSION_PATCH);
+    snprintf(
+        version, sizeof version, "%d.%d.%d", HUNKRAVY_VERSION_MAJOR, HUNKRAVY_VERSION_MINOR, HUNKRAVY_VERSION_PATCH);
     HOLDS(strcmp(version, HUNKRAVY_VERSION) == 0);
     HOLDS(strcmp(hunkravy_version(), HUNKRAVY_VERSION) == 0);
 }

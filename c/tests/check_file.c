@@ -120,7 +120,10 @@ static int counted_fsync(int fd)
     return is_right ? 0 : -1;
 }
 
-static int counted_ftruncate(int fd, off_t length) { return is_made() ? ftruncate(fd, length) : -1; }
+static int counted_ftruncate(int fd, off_t length)
+{
+    return is_made() ? ftruncate(fd, length) : -1;
+}
 
 static int counted_rename(const char *from, const char *to)
 {

@@ -30,8 +30,8 @@ static void seal_header(const struct commit *made, uint8_t *block, uint64_t coun
     uint8_t npub[32];
 
     fill(npub, sizeof npub);
-    HOLDS(hunkravy_page_header_seal(made->variant, block, SIZE, made->id, counter, 7, npub, made->n,
-                                    made->k, made->n) == HUNKRAVY_OK);
+    HOLDS(hunkravy_page_header_seal(
+              made->variant, block, SIZE, made->id, counter, 7, npub, made->n, made->k, made->n) == HUNKRAVY_OK);
 }
 
 /* ---- The format, as docs/RANDOM-ACCESS.md defines it */
@@ -62,11 +62,11 @@ static size_t write_journal(const struct commit *made, uint8_t *journal)
         at += made->lengths[i];
     }
     memset(nonce, 255, sizeof nonce);
-    HOLDS(hunkravy_mac(made->variant, (const uint8_t *)"AGJ1", 4, nonce, made->n, made->k, made->n,
-                       key, sizeof key) == HUNKRAVY_OK);
+    HOLDS(hunkravy_mac(made->variant, (const uint8_t *)"AGJ1", 4, nonce, made->n, made->k, made->n, key, sizeof key) ==
+        HUNKRAVY_OK);
     memcpy(input + 8, journal + START, (size_t)(at - journal) - START);
-    HOLDS(hunkravy_mac(HUNKRAVY_AEGIS128L, input, 8 + (size_t)(at - journal) - START, made->nonce,
-                       sizeof made->nonce, key, sizeof key, at, MAC) == HUNKRAVY_OK);
+    HOLDS(hunkravy_mac(HUNKRAVY_AEGIS128L, input, 8 + (size_t)(at - journal) - START, made->nonce, sizeof made->nonce,
+              key, sizeof key, at, MAC) == HUNKRAVY_OK);
     return (size_t)(at - journal) + MAC;
 }
 
@@ -78,19 +78,17 @@ static void check_written(const struct commit *made)
     uint8_t journal[MOST_BYTES], *at = journal + START;
     uint8_t head[HEAD], other[MAC];
 
-    HOLDS(hunkravy_journal_init(made->variant, &st, SIZE, made->id, made->nonce, made->k, made->n,
-                                journal) == HUNKRAVY_OK);
+    HOLDS(hunkravy_journal_init(made->variant, &st, SIZE, made->id, made->nonce, made->k, made->n, journal) ==
+        HUNKRAVY_OK);
     kept = st;
     memset(head, 0x55, sizeof head);
-    HOLDS(hunkravy_journal_entry(&st, (UINT64_C(1) << 63) - 3, made->text, 3, head) ==
-          HUNKRAVY_FILE_TOO_LONG);
+    HOLDS(hunkravy_journal_entry(&st, (UINT64_C(1) << 63) - 3, made->text, 3, head) == HUNKRAVY_FILE_TOO_LONG);
     HOLDS(hunkravy_journal_entry(&st, UINT64_MAX, made->text, 3, head) == HUNKRAVY_FILE_TOO_LONG);
     HOLDS(hunkravy_mac_update(&st, made->text, 3) == HUNKRAVY_WRONG_STATE);
     HOLDS(hunkravy_mac_final(&st, other, MAC) == HUNKRAVY_WRONG_STATE);
     HOLDS(memcmp(&st, &kept, sizeof st) == 0 && all_are(head, sizeof head, 0x55));
     for (size_t i = 0; i < WRITES; i++) {
-        HOLDS(hunkravy_journal_entry(&st, made->places[i], made->writes[i], made->lengths[i], at) ==
-              HUNKRAVY_OK);
+        HOLDS(hunkravy_journal_entry(&st, made->places[i], made->writes[i], made->lengths[i], at) == HUNKRAVY_OK);
         memcpy(at + HEAD, made->writes[i], made->lengths[i]);
         at += HEAD + made->lengths[i];
     }
@@ -131,14 +129,13 @@ static void check_writes(const struct commit *made, const uint8_t *writes, size_
 }
 
 /* A file that begins with these bytes gets this answer, and so much of the journal is made again. */
-static void check_answer(const struct commit *made, const uint8_t *file, size_t filelen,
-                         const uint8_t *journal, size_t journallen, int code, size_t expected)
+static void check_answer(const struct commit *made, const uint8_t *file, size_t filelen, const uint8_t *journal,
+    size_t journallen, int code, size_t expected)
 {
     uint8_t *copy = copied(journal, journallen);
     size_t writeslen = 9999;
 
-    HOLDS(hunkravy_journal_check(made->variant, file, filelen, made->k, made->n, copy, journallen,
-                                 &writeslen) == code);
+    HOLDS(hunkravy_journal_check(made->variant, file, filelen, made->k, made->n, copy, journallen, &writeslen) == code);
     HOLDS(writeslen == (code == HUNKRAVY_OK ? expected : 9999));
     HOLDS(are_equal(copy, journal, journallen));
     if (code == HUNKRAVY_OK && expected > 0) {
@@ -179,8 +176,7 @@ static void check_read(const struct commit *made)
 
 /* ---- What is refused */
 
-static void check_refused(const struct commit *made, uint32_t variant, uint32_t size, size_t klen,
-                          int code)
+static void check_refused(const struct commit *made, uint32_t variant, uint32_t size, size_t klen, int code)
 {
     hunkravy_state st;
     uint8_t start[START], *k = filled(klen, 0);

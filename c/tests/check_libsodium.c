@@ -50,10 +50,9 @@ struct cipher {
     size_t key_bytes;
     int (*encrypt)(out c, length_to clen, in m, length_of, in ad, length_of, in nsec, in npub, in k);
     int (*decrypt)(out m, length_to mlen, out nsec, in c, length_of, in ad, length_of, in npub, in k);
-    int (*encrypt_detached)(out c, out mac, length_to maclen, in m, length_of, in ad, length_of,
-                            in nsec, in npub, in k);
-    int (*decrypt_detached)(out m, out nsec, in c, length_of, in mac, in ad, length_of, in npub,
-                            in k);
+    int (*encrypt_detached)(
+        out c, out mac, length_to maclen, in m, length_of, in ad, length_of, in nsec, in npub, in k);
+    int (*decrypt_detached)(out m, out nsec, in c, length_of, in mac, in ad, length_of, in npub, in k);
     void (*keygen)(unsigned char *k);
     size_t (*keybytes)(void);
     size_t (*npubbytes)(void);
@@ -64,15 +63,13 @@ struct cipher {
 
 static const struct cipher CIPHERS[] = {
     {"aegis128l", 16, crypto_aead_aegis128l_encrypt, crypto_aead_aegis128l_decrypt,
-     crypto_aead_aegis128l_encrypt_detached, crypto_aead_aegis128l_decrypt_detached,
-     crypto_aead_aegis128l_keygen, crypto_aead_aegis128l_keybytes, crypto_aead_aegis128l_npubbytes,
-     crypto_aead_aegis128l_nsecbytes, crypto_aead_aegis128l_abytes,
-     crypto_aead_aegis128l_messagebytes_max},
-    {"aegis256", 32, crypto_aead_aegis256_encrypt, crypto_aead_aegis256_decrypt,
-     crypto_aead_aegis256_encrypt_detached, crypto_aead_aegis256_decrypt_detached,
-     crypto_aead_aegis256_keygen, crypto_aead_aegis256_keybytes, crypto_aead_aegis256_npubbytes,
-     crypto_aead_aegis256_nsecbytes, crypto_aead_aegis256_abytes,
-     crypto_aead_aegis256_messagebytes_max},
+        crypto_aead_aegis128l_encrypt_detached, crypto_aead_aegis128l_decrypt_detached, crypto_aead_aegis128l_keygen,
+        crypto_aead_aegis128l_keybytes, crypto_aead_aegis128l_npubbytes, crypto_aead_aegis128l_nsecbytes,
+        crypto_aead_aegis128l_abytes, crypto_aead_aegis128l_messagebytes_max},
+    {"aegis256", 32, crypto_aead_aegis256_encrypt, crypto_aead_aegis256_decrypt, crypto_aead_aegis256_encrypt_detached,
+        crypto_aead_aegis256_decrypt_detached, crypto_aead_aegis256_keygen, crypto_aead_aegis256_keybytes,
+        crypto_aead_aegis256_npubbytes, crypto_aead_aegis256_nsecbytes, crypto_aead_aegis256_abytes,
+        crypto_aead_aegis256_messagebytes_max},
 };
 
 static int (*const init)(void) = sodium_init;

@@ -34,24 +34,21 @@ static struct layout layout_of(const struct variant *variant, uint32_t size)
 
 /* ---- The calls under a layout */
 
-static int seal_page(const struct layout *layout, uint8_t *page, size_t length, uint64_t number,
-                     const uint8_t *npub)
+static int seal_page(const struct layout *layout, uint8_t *page, size_t length, uint64_t number, const uint8_t *npub)
 {
-    return hunkravy_page_seal(layout->variant, page, length, layout->id, number, npub, layout->n,
-                              layout->k, layout->n);
+    return hunkravy_page_seal(layout->variant, page, length, layout->id, number, npub, layout->n, layout->k, layout->n);
 }
 
 static int open_page(const struct layout *layout, uint8_t *page, size_t length, uint64_t number)
 {
-    return hunkravy_page_open(layout->variant, page, length, layout->id, number, layout->k,
-                              layout->n);
+    return hunkravy_page_open(layout->variant, page, length, layout->id, number, layout->k, layout->n);
 }
 
-static int seal_header(const struct layout *layout, uint8_t *header_block, uint64_t counter,
-                       uint64_t contentslen, const uint8_t *npub)
+static int seal_header(
+    const struct layout *layout, uint8_t *header_block, uint64_t counter, uint64_t contentslen, const uint8_t *npub)
 {
-    return hunkravy_page_header_seal(layout->variant, header_block, layout->size, layout->id,
-                                     counter, contentslen, npub, layout->n, layout->k, layout->n);
+    return hunkravy_page_header_seal(layout->variant, header_block, layout->size, layout->id, counter, contentslen,
+        npub, layout->n, layout->k, layout->n);
 }
 
 /* ---- The format, as docs/RANDOM-ACCESS.md defines it */
@@ -67,8 +64,8 @@ static void write_clear(uint8_t *clear, const struct layout *layout)
 }
 
 /* Encrypts a page, or the rest of a header, whose contents are in their place. */
-static void seal_box(const struct layout *layout, uint8_t *box, size_t length, const uint8_t *clear,
-                     uint64_t number, const uint8_t *npub)
+static void seal_box(const struct layout *layout, uint8_t *box, size_t length, const uint8_t *clear, uint64_t number,
+    const uint8_t *npub)
 {
     size_t n = layout->n;
     uint8_t ad[CLEAR + 8];
@@ -76,16 +73,18 @@ static void seal_box(const struct layout *layout, uint8_t *box, size_t length, c
     memcpy(ad, clear, CLEAR);
     write_number(ad + CLEAR, number, 8);
     memcpy(box, npub, n);
-    HOLDS(hunkravy_encrypt_in_place(layout->variant, box + n, length - n - TAG, ad, sizeof ad, npub,
-                                    n, layout->k, n, box + length - TAG, TAG) == HUNKRAVY_OK);
+    HOLDS(hunkravy_encrypt_in_place(layout->variant, box + n, length - n - TAG, ad, sizeof ad, npub, n, layout->k, n,
+              box + length - TAG, TAG) == HUNKRAVY_OK);
 }
 
 /* The bytes of a header, up to the zeros after it. */
-static size_t header_bytes(const struct layout *layout) { return CLEAR + layout->n + 16 + TAG; }
+static size_t header_bytes(const struct layout *layout)
+{
+    return CLEAR + layout->n + 16 + TAG;
+}
 
-static void write_header_block(const struct layout *layout, uint8_t *header_block,
-                               const uint8_t *clear, uint64_t counter, uint64_t contentslen,
-                               const uint8_t *npub)
+static void write_header_block(const struct layout *layout, uint8_t *header_block, const uint8_t *clear,
+    uint64_t counter, uint64_t contentslen, const uint8_t *npub)
 {
     memset(header_block, 0, BLOCK);
     memcpy(header_block, clear, CLEAR);
@@ -96,8 +95,7 @@ static void write_header_block(const struct layout *layout, uint8_t *header_bloc
 /* ---- Pages */
 
 /* These bytes are refused as page `number`, and erased. */
-static void check_is_damaged(const struct layout *layout, uint64_t number, const uint8_t *bytes,
-                             size_t length)
+static void check_is_damaged(const struct layout *layout, uint64_t number, const uint8_t *bytes, size_t length)
 {
     uint8_t *page = copied(bytes, length);
 
@@ -107,8 +105,7 @@ static void check_is_damaged(const struct layout *layout, uint64_t number, const
 }
 
 /* A changed bit, and the page at another number, of another file, and under another key. */
-static void check_others(const struct layout *layout, uint64_t number, const uint8_t *page,
-                         size_t length)
+static void check_others(const struct layout *layout, uint64_t number, const uint8_t *page, size_t length)
 {
     struct layout other = *layout;
     uint8_t *changed = copied(page, length);
@@ -159,27 +156,25 @@ static void check_no_header(const struct layout *layout, const uint8_t *k, const
     uint64_t counter = 8, contentslen = 9;
 
     memset(id, 0x55, sizeof id);
-    HOLDS(hunkravy_page_header_open(layout->variant, block, k, layout->n, &size, id, &counter,
-                                    &contentslen) == HUNKRAVY_INVALID_TAG);
+    HOLDS(hunkravy_page_header_open(layout->variant, block, k, layout->n, &size, id, &counter, &contentslen) ==
+        HUNKRAVY_INVALID_TAG);
     HOLDS(size == 7 && all_are(id, sizeof id, 0x55) && counter == 8 && contentslen == 9);
 }
 
-static void check_has_header(const struct layout *layout, const uint8_t *block, uint64_t counter,
-                             uint64_t contentslen)
+static void check_has_header(const struct layout *layout, const uint8_t *block, uint64_t counter, uint64_t contentslen)
 {
     uint8_t id[HUNKRAVY_PAGE_ID_BYTES];
     uint32_t size;
     uint64_t count, length;
 
-    HOLDS(hunkravy_page_header_open(layout->variant, block, layout->k, layout->n, &size, id, &count,
-                                    &length) == HUNKRAVY_OK);
+    HOLDS(hunkravy_page_header_open(layout->variant, block, layout->k, layout->n, &size, id, &count, &length) ==
+        HUNKRAVY_OK);
     HOLDS(size == layout->size && memcmp(id, layout->id, sizeof id) == 0);
     HOLDS(count == counter && length == contentslen);
 }
 
 /* A header that no call writes: of another length of the contents, page size or variant. */
-static void check_wrong_header(const struct layout *layout, const uint8_t *clear,
-                               uint64_t contentslen)
+static void check_wrong_header(const struct layout *layout, const uint8_t *clear, uint64_t contentslen)
 {
     uint8_t block[BLOCK];
 
@@ -187,8 +182,7 @@ static void check_wrong_header(const struct layout *layout, const uint8_t *clear
     check_no_header(layout, layout->k, block);
 }
 
-static void check_header(const struct variant *variant, uint32_t size, uint64_t counter,
-                         uint64_t contentslen)
+static void check_header(const struct variant *variant, uint32_t size, uint64_t counter, uint64_t contentslen)
 {
     const struct layout layout = layout_of(variant, size);
     size_t length = header_bytes(&layout);
@@ -231,8 +225,7 @@ static void check_refused(uint32_t variant, size_t npublen, size_t klen, int cod
     HOLDS(hunkravy_page_header_seal(variant, block, 255, id, 0, 0, npub, npublen, k, klen) == code);
     if (code != HUNKRAVY_WRONG_NONCE_LENGTH) {
         HOLDS(hunkravy_page_open(variant, page, 10, id, 0, k, klen) == code);
-        HOLDS(hunkravy_page_header_open(variant, block, k, klen, &size, id, &counter,
-                                        &contentslen) == code);
+        HOLDS(hunkravy_page_header_open(variant, block, k, klen, &size, id, &counter, &contentslen) == code);
     }
     HOLDS(all_are(page, sizeof page, 0x55) && all_are(block, sizeof block, 0x55));
     HOLDS(size == 7 && all_are(id, sizeof id, 0) && counter == 8 && contentslen == 9);
@@ -252,8 +245,7 @@ static void check_lengths(uint32_t variant, size_t n)
     check_refused(UINT32_MAX, n, n, HUNKRAVY_WRONG_VARIANT);
 }
 
-static void check_page_refused(const struct layout *layout, size_t length, uint64_t number,
-                               int code)
+static void check_page_refused(const struct layout *layout, size_t length, uint64_t number, int code)
 {
     uint8_t *page = filled(length, 0x55);
 
@@ -263,8 +255,7 @@ static void check_page_refused(const struct layout *layout, size_t length, uint6
     free(page);
 }
 
-static void check_header_refused(const struct variant *variant, uint32_t size, uint64_t contentslen,
-                                 int code)
+static void check_header_refused(const struct variant *variant, uint32_t size, uint64_t contentslen, int code)
 {
     const struct layout layout = layout_of(variant, size);
     uint8_t block[BLOCK];

@@ -12,7 +12,10 @@
 
 static const uint8_t AGR2[] = {'A', 'G', 'R', '2'};
 
-static int is_zeros(const hunkravy_record_stream *st) { return all_are(st, sizeof *st, 0); }
+static int is_zeros(const hunkravy_record_stream *st)
+{
+    return all_are(st, sizeof *st, 0);
+}
 
 /* ---- Beginning a stream, in memory that was anything */
 
@@ -37,23 +40,19 @@ static struct keys keys_of(const struct line *line)
 static int begin(hunkravy_record_stream *st, const struct keys *keys, uint8_t *header)
 {
     memset(st, 0x55, sizeof *st);
-    return hunkravy_record_begin(st, keys->k, keys->prefix, keys->context, keys->contextlen,
-                                 header);
+    return hunkravy_record_begin(st, keys->k, keys->prefix, keys->context, keys->contextlen, header);
 }
 
 static int begin_open(hunkravy_record_stream *st, const struct keys *keys, const uint8_t *header)
 {
     memset(st, 0x55, sizeof *st);
-    return hunkravy_record_begin_open(st, keys->k, keys->prefix, keys->context, keys->contextlen,
-                                      header);
+    return hunkravy_record_begin_open(st, keys->k, keys->prefix, keys->context, keys->contextlen, header);
 }
 
-static int begin_open_at(hunkravy_record_stream *st, const struct keys *keys, uint64_t number,
-                         uint64_t before)
+static int begin_open_at(hunkravy_record_stream *st, const struct keys *keys, uint64_t number, uint64_t before)
 {
     memset(st, 0x55, sizeof *st);
-    return hunkravy_record_begin_open_at(st, keys->k, keys->prefix, keys->context, keys->contextlen,
-                                         number, before);
+    return hunkravy_record_begin_open_at(st, keys->k, keys->prefix, keys->context, keys->contextlen, number, before);
 }
 
 static hunkravy_record_stream begun(const struct keys *keys)
@@ -90,8 +89,7 @@ static void check_is_damaged(hunkravy_record_stream *st, const uint8_t *bytes, s
 }
 
 /* The bytes open to this message, but not with another bit. */
-static void check_opens(hunkravy_record_stream *st, const uint8_t *bytes, const uint8_t *message,
-                        size_t length)
+static void check_opens(hunkravy_record_stream *st, const uint8_t *bytes, const uint8_t *message, size_t length)
 {
     uint8_t *record = copied(bytes, length + MORE);
     size_t recordlen = 0, mlen = 0;
@@ -126,9 +124,8 @@ static void check_sealrec(const struct line *line)
         size_t length = line->text.chunks[i];
         uint8_t *record = filled(length + MORE, 0x55);
         memcpy(record + HEAD, message, length);
-        HOLDS((i + 1 < line->text.chunk_count
-                   ? hunkravy_record_seal(&sealer, record, length)
-                   : hunkravy_record_seal_last(&sealer, record, length)) == HUNKRAVY_OK);
+        HOLDS((i + 1 < line->text.chunk_count ? hunkravy_record_seal(&sealer, record, length)
+                                              : hunkravy_record_seal_last(&sealer, record, length)) == HUNKRAVY_OK);
         HOLDS(at + length + MORE <= stream->length);
         HOLDS(memcmp(record, expected, length + MORE) == 0);
         HOLDS(begin_open_at(&alone, &keys, i + 1, before) == HUNKRAVY_OK);
@@ -150,8 +147,8 @@ static void check_sealrec(const struct line *line)
  * bytes the record has. After an error writes the line program's answer to `refusal`, and returns
  * 0.
  */
-static size_t open_next(hunkravy_record_stream *st, const uint8_t *bytes, size_t left,
-                        struct bytes *found, int *is_last, char *refusal)
+static size_t open_next(
+    hunkravy_record_stream *st, const uint8_t *bytes, size_t left, struct bytes *found, int *is_last, char *refusal)
 {
     size_t recordlen = 0, mlen = 0;
     uint8_t *record;
@@ -316,8 +313,7 @@ static void check_places(const struct keys *keys)
     HOLDS(hunkravy_record_seal(&st, bytes, 7) == HUNKRAVY_OK);
     HOLDS(hunkravy_record_seal(&st, bytes, 0) == HUNKRAVY_MESSAGE_TOO_LONG);
     HOLDS(begin_open_at(&st, keys, 1, before) == HUNKRAVY_OK);
-    HOLDS(hunkravy_record_open(&st, bytes, MORE + 8, &length, &is_last) ==
-          HUNKRAVY_MESSAGE_TOO_LONG);
+    HOLDS(hunkravy_record_open(&st, bytes, MORE + 8, &length, &is_last) == HUNKRAVY_MESSAGE_TOO_LONG);
     HOLDS(length == 7 && is_last == 7);
     check_opens(&st, bytes, message, 7);
 }
@@ -371,13 +367,12 @@ int main(int count, char **arguments)
     size_t lines;
 
     HOLDS(count == 2);
-    lines = for_each_line(arguments[1], "records", check_line) +
-            for_each_line(arguments[1], "record-tables", check_line);
+    lines =
+        for_each_line(arguments[1], "records", check_line) + for_each_line(arguments[1], "record-tables", check_line);
     check_states(&keys);
     check_places(&keys);
     check_lengths(&keys);
     check_longest(&keys);
-    printf("hunkravy.h on record streams: %lu stored lines, %lu checks, all right\n",
-           (unsigned long)lines, checks);
+    printf("hunkravy.h on record streams: %lu stored lines, %lu checks, all right\n", (unsigned long)lines, checks);
     return EXIT_SUCCESS;
 }

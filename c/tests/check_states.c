@@ -6,7 +6,10 @@
  */
 #include "check.h"
 
-static int is_zeros(const hunkravy_state *st) { return all_are(st, sizeof *st, 0); }
+static int is_zeros(const hunkravy_state *st)
+{
+    return all_are(st, sizeof *st, 0);
+}
 
 static int is_same(const hunkravy_state *st, const hunkravy_state *other)
 {
@@ -21,9 +24,8 @@ static hunkravy_state begun(const struct line *line)
     hunkravy_state st;
 
     memset(&st, 0x55, sizeof st);
-    HOLDS(hunkravy_state_init(line->variant->number, &st, line->ad.at, line->ad.length,
-                              line->nonce.at, line->nonce.length, line->key.at,
-                              line->key.length) == HUNKRAVY_OK);
+    HOLDS(hunkravy_state_init(line->variant->number, &st, line->ad.at, line->ad.length, line->nonce.at,
+              line->nonce.length, line->key.at, line->key.length) == HUNKRAVY_OK);
     return st;
 }
 
@@ -65,10 +67,8 @@ static void check_final(const struct line *line, hunkravy_state st, uint8_t *m)
 
     HOLDS(hunkravy_state_decrypt_final(&st, m, length, mac, 17) == HUNKRAVY_WRONG_TAG_LENGTH);
     HOLDS(hunkravy_state_decrypt_final(&st, m, length, NULL, 0) == HUNKRAVY_WRONG_TAG_LENGTH);
-    HOLDS(hunkravy_state_decrypt_final(&st, m, length + 1, mac, maclen) ==
-          HUNKRAVY_WRONG_MESSAGE_LENGTH);
-    HOLDS(length < 2 || hunkravy_state_decrypt_final(&st, m, length - 1, mac, maclen) ==
-                            HUNKRAVY_WRONG_MESSAGE_LENGTH);
+    HOLDS(hunkravy_state_decrypt_final(&st, m, length + 1, mac, maclen) == HUNKRAVY_WRONG_MESSAGE_LENGTH);
+    HOLDS(length < 2 || hunkravy_state_decrypt_final(&st, m, length - 1, mac, maclen) == HUNKRAVY_WRONG_MESSAGE_LENGTH);
     HOLDS(is_same(&st, &old) && are_equal(m, before, length + 1));
     HOLDS(hunkravy_state_decrypt_final(&st, NULL, 0, mac, maclen) == code && is_zeros(&st));
     st = old;
@@ -116,8 +116,8 @@ static void check_mac(const struct line *line)
     size_t maclen = line->number;
 
     memset(&st, 0x55, sizeof st);
-    HOLDS(hunkravy_mac_init(line->variant->number, &st, line->nonce.at, line->nonce.length,
-                            line->key.at, line->key.length) == HUNKRAVY_OK);
+    HOLDS(hunkravy_mac_init(line->variant->number, &st, line->nonce.at, line->nonce.length, line->key.at,
+              line->key.length) == HUNKRAVY_OK);
     for (size_t i = 0, at = 0; i < line->text.chunk_count; at += line->text.chunks[i++]) {
         uint8_t *input = copied(line->text.at + at, line->text.chunks[i]);
         HOLDS(hunkravy_mac_final(&st, mac, maclen) == HUNKRAVY_OK);
@@ -234,12 +234,11 @@ static void check_inits(uint32_t variant, size_t n)
     for (size_t i = 0; i < COUNT(wrong); i++) {
         uint8_t *npub = filled(wrong[i].npublen, 0), *k = filled(wrong[i].klen, 0);
         memset(&st, 0x55, sizeof st);
-        HOLDS(hunkravy_state_init(wrong[i].variant, &st, NULL, 0, npub, wrong[i].npublen, k,
-                                  wrong[i].klen) == wrong[i].code);
+        HOLDS(hunkravy_state_init(wrong[i].variant, &st, NULL, 0, npub, wrong[i].npublen, k, wrong[i].klen) ==
+            wrong[i].code);
         HOLDS(is_zeros(&st));
         memset(&st, 0x55, sizeof st);
-        HOLDS(hunkravy_mac_init(wrong[i].variant, &st, npub, wrong[i].npublen, k, wrong[i].klen) ==
-              wrong[i].code);
+        HOLDS(hunkravy_mac_init(wrong[i].variant, &st, npub, wrong[i].npublen, k, wrong[i].klen) == wrong[i].code);
         HOLDS(is_zeros(&st));
         free(npub);
         free(k);
@@ -345,7 +344,6 @@ int main(int count, char **arguments)
         check_words(VARIANTS[i].number, VARIANTS[i].key_bytes);
         check_limit(VARIANTS[i].number, VARIANTS[i].key_bytes);
     }
-    printf("hunkravy.h on a state: %lu stored lines, %lu checks, all right\n", (unsigned long)lines,
-           checks);
+    printf("hunkravy.h on a state: %lu stored lines, %lu checks, all right\n", (unsigned long)lines, checks);
     return EXIT_SUCCESS;
 }

@@ -15,8 +15,7 @@
 #define LONGEST 1000
 #define LONGEST_DATA 133
 
-static const size_t LENGTHS[] = {0,  1,  15, 16, 17,  31,  32,  33,
-                                 63, 64, 65, 127, 128, 129, 300, LONGEST};
+static const size_t LENGTHS[] = {0, 1, 15, 16, 17, 31, 32, 33, 63, 64, 65, 127, 128, 129, 300, LONGEST};
 static const size_t DATA_LENGTHS[] = {0, 13, LONGEST_DATA};
 
 /* ---- What is secret, and what is public */
@@ -46,8 +45,7 @@ static int public_code(int code)
 
 #define RETURNS(wanted, call) HOLDS(public_code(call) == (wanted))
 
-#define KEYS(this)                                                                                 \
-    (this)->secret.npub, (this)->calls->key_bytes, (this)->secret.k, (this)->calls->key_bytes
+#define KEYS(this) (this)->secret.npub, (this)->calls->key_bytes, (this)->secret.k, (this)->calls->key_bytes
 #define CONTEXT(this) (this)->secret.ad, (this)->adlen, KEYS(this)
 
 /* ---- The calls */
@@ -59,30 +57,23 @@ static void check_at_once(const struct message *this)
     size_t length = this->length, maclen = this->maclen;
 
     memcpy(mc, this->secret.text, length);
-    RETURNS(HUNKRAVY_OK,
-            hunkravy_encrypt_in_place(variant, mc, length, CONTEXT(this), mac, maclen));
+    RETURNS(HUNKRAVY_OK, hunkravy_encrypt_in_place(variant, mc, length, CONTEXT(this), mac, maclen));
     memcpy(c, mc, length);
     memcpy(wrong, mac, maclen);
     wrong[maclen - 1] ^= 128;
     RETURNS(HUNKRAVY_OK, hunkravy_verify(variant, c, length, CONTEXT(this), mac, maclen));
-    RETURNS(HUNKRAVY_OK,
-            hunkravy_decrypt_in_place(variant, mc, length, CONTEXT(this), mac, maclen));
-    RETURNS(HUNKRAVY_INVALID_TAG,
-            hunkravy_decrypt(variant, mc, c, length, CONTEXT(this), wrong, maclen));
-    RETURNS(HUNKRAVY_OK, hunkravy_encrypt(variant, c, this->secret.text, length, CONTEXT(this), mac,
-                                          maclen));
-    RETURNS(HUNKRAVY_OK, hunkravy_encrypt_combined(variant, c, this->secret.text, length,
-                                                   CONTEXT(this), maclen));
-    RETURNS(HUNKRAVY_OK,
-            hunkravy_decrypt_combined(variant, c, c, length + maclen, CONTEXT(this), maclen));
+    RETURNS(HUNKRAVY_OK, hunkravy_decrypt_in_place(variant, mc, length, CONTEXT(this), mac, maclen));
+    RETURNS(HUNKRAVY_INVALID_TAG, hunkravy_decrypt(variant, mc, c, length, CONTEXT(this), wrong, maclen));
+    RETURNS(HUNKRAVY_OK, hunkravy_encrypt(variant, c, this->secret.text, length, CONTEXT(this), mac, maclen));
+    RETURNS(HUNKRAVY_OK, hunkravy_encrypt_combined(variant, c, this->secret.text, length, CONTEXT(this), maclen));
+    RETURNS(HUNKRAVY_OK, hunkravy_decrypt_combined(variant, c, c, length + maclen, CONTEXT(this), maclen));
     RETURNS(HUNKRAVY_OK, hunkravy_stream(variant, mc, length, KEYS(this)));
     RETURNS(HUNKRAVY_OK, hunkravy_stream_xor(variant, mc, this->secret.text, length, KEYS(this)));
     RETURNS(HUNKRAVY_OK, hunkravy_stream_xor_in_place(variant, mc, length, KEYS(this)));
     RETURNS(HUNKRAVY_OK, hunkravy_mac(variant, c, length, KEYS(this), mac, maclen));
     RETURNS(HUNKRAVY_OK, hunkravy_mac_verify(variant, c, length, KEYS(this), mac, maclen));
     mac[0] ^= 1;
-    RETURNS(HUNKRAVY_INVALID_TAG,
-            hunkravy_mac_verify(variant, c, length, KEYS(this), mac, maclen));
+    RETURNS(HUNKRAVY_INVALID_TAG, hunkravy_mac_verify(variant, c, length, KEYS(this), mac, maclen));
 }
 
 static void begin(const struct message *this, hunkravy_state *st)
@@ -105,14 +96,12 @@ static void check_messages(const struct message *this)
 
     begin(this, &st);
     RETURNS(HUNKRAVY_OK, hunkravy_state_decrypt_check(&st, c, first));
-    RETURNS(HUNKRAVY_OK,
-            hunkravy_state_decrypt_unverified(&st, mc + first, c + first, rest));
+    RETURNS(HUNKRAVY_OK, hunkravy_state_decrypt_unverified(&st, mc + first, c + first, rest));
     RETURNS(HUNKRAVY_OK, hunkravy_state_decrypt_in_place_unverified(&st, mc, 0));
     copy = st;
     RETURNS(HUNKRAVY_OK, hunkravy_state_decrypt_final(&st, mc, this->length, mac, this->maclen));
     mac[0] ^= 1;
-    RETURNS(HUNKRAVY_INVALID_TAG,
-            hunkravy_state_decrypt_final(&copy, mc, this->length, mac, this->maclen));
+    RETURNS(HUNKRAVY_INVALID_TAG, hunkravy_state_decrypt_final(&copy, mc, this->length, mac, this->maclen));
 }
 
 static void check_macs(const struct message *this)
@@ -123,8 +112,7 @@ static void check_macs(const struct message *this)
 
     RETURNS(HUNKRAVY_OK, hunkravy_mac_init(this->calls->number, &st, KEYS(this)));
     RETURNS(HUNKRAVY_OK, hunkravy_mac_update(&st, this->secret.text, first));
-    RETURNS(HUNKRAVY_OK,
-            hunkravy_mac_update(&st, this->secret.text + first, this->length - first));
+    RETURNS(HUNKRAVY_OK, hunkravy_mac_update(&st, this->secret.text + first, this->length - first));
     RETURNS(HUNKRAVY_OK, hunkravy_mac_final(&st, mac, this->maclen));
     RETURNS(HUNKRAVY_OK, hunkravy_mac_final_verify(&st, mac, this->maclen));
     mac[this->maclen / 2] ^= 16;
@@ -146,17 +134,16 @@ static void check_records(const struct message *this)
     for (size_t i = 0; i < 2; i++) {
         memcpy(records[i] + HUNKRAVY_RECORD_HEAD_BYTES, this->secret.text, length);
     }
-    RETURNS(HUNKRAVY_OK, hunkravy_record_begin(&st, this->secret.k, this->secret.npub,
-                                               this->secret.text, length, header));
+    RETURNS(
+        HUNKRAVY_OK, hunkravy_record_begin(&st, this->secret.k, this->secret.npub, this->secret.text, length, header));
     RETURNS(HUNKRAVY_OK, hunkravy_record_seal(&st, records[0], length));
     RETURNS(HUNKRAVY_OK, hunkravy_record_seal_last(&st, records[1], length));
     memcpy(records[2], records[0], recordlen);
     records[2][recordlen - 1] ^= 1;
 
-    RETURNS(HUNKRAVY_OK, hunkravy_record_begin_open(&st, this->secret.k, this->secret.npub,
-                                                    this->secret.text, length, header));
-    RETURNS(HUNKRAVY_INVALID_TAG,
-            hunkravy_record_open(&st, records[2], recordlen, &mlen, &is_last));
+    RETURNS(HUNKRAVY_OK,
+        hunkravy_record_begin_open(&st, this->secret.k, this->secret.npub, this->secret.text, length, header));
+    RETURNS(HUNKRAVY_INVALID_TAG, hunkravy_record_open(&st, records[2], recordlen, &mlen, &is_last));
     RETURNS(HUNKRAVY_OK, hunkravy_record_len(&st, records[0], &mlen));
     RETURNS(HUNKRAVY_OK, hunkravy_record_open(&st, records[0], recordlen, &mlen, &is_last));
     HOLDS(mlen == length && is_last == 0);
@@ -190,14 +177,13 @@ static void check_pages(const struct message *this)
     RETURNS(HUNKRAVY_OK, hunkravy_page_open(variant, pages[0], pagelen, id, 7, k, n));
     RETURNS(HUNKRAVY_INVALID_TAG, hunkravy_page_open(variant, pages[1], pagelen, id, 8, k, n));
     RETURNS(HUNKRAVY_INVALID_TAG, hunkravy_page_open(variant, pages[2], pagelen, id, 7, k, n));
-    RETURNS(HUNKRAVY_OK, hunkravy_page_header_seal(variant, header_block, (uint32_t)size, id, 1,
-                                                   this->length, KEYS(this)));
-    RETURNS(HUNKRAVY_OK, hunkravy_page_header_open(variant, header_block, k, n, &found, name, &counter,
-                                                   &contentslen));
+    RETURNS(
+        HUNKRAVY_OK, hunkravy_page_header_seal(variant, header_block, (uint32_t)size, id, 1, this->length, KEYS(this)));
+    RETURNS(HUNKRAVY_OK, hunkravy_page_header_open(variant, header_block, k, n, &found, name, &counter, &contentslen));
     HOLDS(found == size && memcmp(name, id, sizeof id) == 0);
     header_block[n + 40] ^= 1;
-    RETURNS(HUNKRAVY_INVALID_TAG, hunkravy_page_header_open(variant, header_block, k, n, &found, name,
-                                                            &counter, &contentslen));
+    RETURNS(HUNKRAVY_INVALID_TAG,
+        hunkravy_page_header_open(variant, header_block, k, n, &found, name, &counter, &contentslen));
 }
 
 /* Returns the number of messages. Each is opened three times in each way. */

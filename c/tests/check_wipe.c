@@ -27,26 +27,28 @@ static size_t place_of(const void *secret)
     return (size_t)((uintptr_t)secret - (uintptr_t)stack);
 }
 
-static inline void set_to_zeros(void *bytes, size_t length) { memset(bytes, 0, length); }
+static inline void set_to_zeros(void *bytes, size_t length)
+{
+    memset(bytes, 0, length);
+}
 
-#define DROPS(NAME, OVERWRITE)                                                                     \
-    static void NAME##_key(void)                                                                   \
-    {                                                                                              \
-        uint8_t key[32];                                                                           \
-        fills(key, sizeof key);                                                                    \
-        place = place_of(key);                                                                     \
-        OVERWRITE(key, sizeof key);                                                                \
-    }                                                                                              \
-    static void NAME##_state(void)                                                                 \
-    {                                                                                              \
-        static const uint8_t key[32] = {1}, nonce[32] = {2};                                       \
-        uint8_t chunk[20] = {3};                                                                   \
-        hunkravy_state st;                                                                         \
-        HOLDS(hunkravy_state_init(HUNKRAVY_AEGIS256, &st, NULL, 0, nonce, 32, key, 32) ==          \
-              HUNKRAVY_OK);                                                                        \
-        HOLDS(hunkravy_state_encrypt_in_place(&st, chunk, sizeof chunk) == HUNKRAVY_OK);           \
-        place = place_of(&st);                                                                     \
-        OVERWRITE(&st, sizeof st);                                                                 \
+#define DROPS(NAME, OVERWRITE) \
+    static void NAME##_key(void) \
+    { \
+        uint8_t key[32]; \
+        fills(key, sizeof key); \
+        place = place_of(key); \
+        OVERWRITE(key, sizeof key); \
+    } \
+    static void NAME##_state(void) \
+    { \
+        static const uint8_t key[32] = {1}, nonce[32] = {2}; \
+        uint8_t chunk[20] = {3}; \
+        hunkravy_state st; \
+        HOLDS(hunkravy_state_init(HUNKRAVY_AEGIS256, &st, NULL, 0, nonce, 32, key, 32) == HUNKRAVY_OK); \
+        HOLDS(hunkravy_state_encrypt_in_place(&st, chunk, sizeof chunk) == HUNKRAVY_OK); \
+        place = place_of(&st); \
+        OVERWRITE(&st, sizeof st); \
     }
 
 DROPS(wiped, hunkravy_wipe)
@@ -67,8 +69,8 @@ static hunkravy_state state_of_verify(void)
 static void verify(void)
 {
     static const uint8_t mac[32] = {4};
-    HOLDS(hunkravy_verify(HUNKRAVY_AEGIS256, CIPHERTEXT, sizeof CIPHERTEXT, NULL, 0, NONCE, 32, KEY,
-                          32, mac, 32) == HUNKRAVY_INVALID_TAG);
+    HOLDS(hunkravy_verify(HUNKRAVY_AEGIS256, CIPHERTEXT, sizeof CIPHERTEXT, NULL, 0, NONCE, 32, KEY, 32, mac, 32) ==
+        HUNKRAVY_INVALID_TAG);
 }
 
 static void keep_state(void)

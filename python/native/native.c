@@ -83,8 +83,7 @@ static void end_work(PyThreadState *released)
 
 /* The first fields of each object. */
 typedef struct {
-    PyObject_HEAD
-    PyThread_type_lock lock;
+    PyObject_HEAD PyThread_type_lock lock;
 } Locked;
 
 /*
@@ -149,8 +148,7 @@ typedef struct Chunk {
 } Chunk;
 
 typedef struct {
-    PyObject_HEAD
-    PyThread_type_lock lock;
+    PyObject_HEAD PyThread_type_lock lock;
     size_t tag_bytes;
     bool is_mac;
     hunkravy_state state;
@@ -276,16 +274,16 @@ static PyObject *mac_verify(State *self, const Py_buffer *mac)
 }
 
 /* The methods that take bytes. */
-#define STATE_METHOD(NAME)                                                                                             \
-    static PyObject *state_##NAME(PyObject *object, PyObject *argument)                                                \
-    {                                                                                                                  \
-        Py_buffer bytes;                                                                                               \
-        if (PyObject_GetBuffer(argument, &bytes, PyBUF_SIMPLE) < 0) {                                                  \
-            return NULL;                                                                                               \
-        }                                                                                                              \
-        PyObject *result = NAME((State *)object, &bytes);                                                              \
-        PyBuffer_Release(&bytes);                                                                                      \
-        return result;                                                                                                 \
+#define STATE_METHOD(NAME) \
+    static PyObject *state_##NAME(PyObject *object, PyObject *argument) \
+    { \
+        Py_buffer bytes; \
+        if (PyObject_GetBuffer(argument, &bytes, PyBUF_SIMPLE) < 0) { \
+            return NULL; \
+        } \
+        PyObject *result = NAME((State *)object, &bytes); \
+        PyBuffer_Release(&bytes); \
+        return result; \
     }
 
 STATE_METHOD(encrypt_chunk)
@@ -380,8 +378,7 @@ static PyMethodDef state_methods[] = {
 /* ---- A cipher with its key: messages in one call, and keystreams */
 
 typedef struct {
-    PyObject_HEAD
-    PyThread_type_lock lock;
+    PyObject_HEAD PyThread_type_lock lock;
     unsigned int variant;
     /* The length of the key, and of nonces. */
     size_t key_bytes;
@@ -442,7 +439,8 @@ static bool check(Cipher *self, const Arguments *arguments, bool is_decrypted, s
 {
     size_t given = (size_t)arguments->data.len;
     int code = is_decrypted && given < self->tag_bytes ? HUNKRAVY_INVALID_TAG
-        : given > HUNKRAVY_MAX_BYTES ? HUNKRAVY_MESSAGE_TOO_LONG : HUNKRAVY_OK;
+        : given > HUNKRAVY_MAX_BYTES                   ? HUNKRAVY_MESSAGE_TOO_LONG
+                                                       : HUNKRAVY_OK;
     if (!has_length("the nonce", arguments->nonce.len, self->key_bytes)) {
         return false;
     }
@@ -455,8 +453,8 @@ static bool check(Cipher *self, const Arguments *arguments, bool is_decrypted, s
  * Encrypts to `out`, with the tag after the ciphertext, or decrypts the bytes in front of their tag. The nonce and the
  * data are copied first, with the interpreter's lock, so no thread of Python can change them meanwhile.
  */
-static int transform(const Cipher *self, const Arguments *arguments, const uint8_t *associated, uint8_t *out,
-    bool is_decrypted)
+static int transform(
+    const Cipher *self, const Arguments *arguments, const uint8_t *associated, uint8_t *out, bool is_decrypted)
 {
     size_t associated_length = (size_t)arguments->associated.len, key_bytes = self->key_bytes;
     size_t length = (size_t)arguments->data.len - (is_decrypted ? self->tag_bytes : 0);
@@ -467,11 +465,10 @@ static int transform(const Cipher *self, const Arguments *arguments, const uint8
     }
     copy(out, arguments->data.buf, length);
     PyThreadState *released = begin_work(length + associated_length);
-    int code = is_decrypted
-        ? hunkravy_decrypt_in_place(self->variant, out, length, associated, associated_length, nonce, key_bytes,
-              self->key, key_bytes, tag, self->tag_bytes)
-        : hunkravy_encrypt_in_place(self->variant, out, length, associated, associated_length, nonce, key_bytes,
-              self->key, key_bytes, out + length, self->tag_bytes);
+    int code = is_decrypted ? hunkravy_decrypt_in_place(self->variant, out, length, associated, associated_length,
+                                  nonce, key_bytes, self->key, key_bytes, tag, self->tag_bytes)
+                            : hunkravy_encrypt_in_place(self->variant, out, length, associated, associated_length,
+                                  nonce, key_bytes, self->key, key_bytes, out + length, self->tag_bytes);
     end_work(released);
     return code;
 }
@@ -513,8 +510,8 @@ static PyObject *in_one_call(PyObject *object, PyObject *given, bool is_decrypte
     Arguments arguments = {.output = {.obj = NULL}};
     PyObject *result = NULL;
     size_t length;
-    if (!PyArg_ParseTuple(given, "y*y*y*|w*", &arguments.nonce, &arguments.data, &arguments.associated,
-                          &arguments.output)) {
+    if (!PyArg_ParseTuple(
+            given, "y*y*y*|w*", &arguments.nonce, &arguments.data, &arguments.associated, &arguments.output)) {
         return NULL;
     }
     if (check(self, &arguments, is_decrypted, &length)) {
@@ -552,8 +549,8 @@ static PyObject *cipher_keystream(PyObject *object, PyObject *given)
     }
     if (result != NULL) {
         PyThreadState *released = begin_work((size_t)length);
-        int code = hunkravy_stream(self->variant, out, (size_t)length, nonce.buf, self->key_bytes, self->key,
-            self->key_bytes);
+        int code =
+            hunkravy_stream(self->variant, out, (size_t)length, nonce.buf, self->key_bytes, self->key, self->key_bytes);
         end_work(released);
         result = result_of(object, code, result);
     }
@@ -625,8 +622,8 @@ static PyObject *cipher_open_page(PyObject *object, PyObject *given)
     }
     if (has_length("the ID", id.len, HUNKRAVY_PAGE_ID_BYTES)) {
         PyThreadState *released = begin_work((size_t)page.len);
-        int code = hunkravy_page_open(self->variant, page.buf, (size_t)page.len, id.buf, number, self->key,
-            self->key_bytes);
+        int code =
+            hunkravy_page_open(self->variant, page.buf, (size_t)page.len, id.buf, number, self->key, self->key_bytes);
         end_work(released);
         result = result_of(object, code, Py_NewRef(Py_None));
     }
@@ -644,8 +641,8 @@ static PyObject *cipher_page_place(PyObject *object, PyObject *given)
         return NULL;
     }
     uint64_t place = hunkravy_page_place(((Cipher *)object)->variant, page_size, number);
-    return result_of(object, place == UINT64_MAX ? HUNKRAVY_FILE_TOO_LONG : HUNKRAVY_OK,
-        PyLong_FromUnsignedLongLong(place));
+    return result_of(
+        object, place == UINT64_MAX ? HUNKRAVY_FILE_TOO_LONG : HUNKRAVY_OK, PyLong_FromUnsignedLongLong(place));
 }
 
 /* Returns a header block. The arguments are the page size, the ID, the counter, the length, and a nonce. */
@@ -686,8 +683,8 @@ static PyObject *cipher_open_header(PyObject *object, PyObject *block)
         return NULL;
     }
     if (bytes.len == HUNKRAVY_PAGE_HEADER_BLOCK_BYTES) {
-        code = hunkravy_page_header_open(self->variant, bytes.buf, self->key, self->key_bytes, &page_size, id, &counter,
-            &length);
+        code = hunkravy_page_header_open(
+            self->variant, bytes.buf, self->key, self->key_bytes, &page_size, id, &counter, &length);
     }
     PyBuffer_Release(&bytes);
     result_of(object, code, NULL);
@@ -714,8 +711,8 @@ static PyObject *cipher_begin_journal(PyObject *object, PyObject *given)
         state = new_object(((Module *)PyType_GetModuleState(Py_TYPE(object)))->state);
     }
     if (state != NULL) {
-        int code = hunkravy_journal_init(self->variant, &state->state, page_size, id.buf, nonce.buf, self->key,
-            self->key_bytes, start);
+        int code = hunkravy_journal_init(
+            self->variant, &state->state, page_size, id.buf, nonce.buf, self->key, self->key_bytes, start);
         state = result_of(object, code, state);
     }
     PyBuffer_Release(&id);
@@ -730,7 +727,7 @@ static PyObject *writes_in(const uint8_t *journal, size_t length)
     size_t start = HUNKRAVY_JOURNAL_START_BYTES, end = start + length, count;
     uint64_t place;
     while (found != NULL && start < end &&
-           hunkravy_journal_next(journal + start, end - start, &place, &count) == HUNKRAVY_OK) {
+        hunkravy_journal_next(journal + start, end - start, &place, &count) == HUNKRAVY_OK) {
         size_t from = start + HUNKRAVY_JOURNAL_HEAD_BYTES;
         PyObject *write = Py_BuildValue("Knn", (unsigned long long)place, (Py_ssize_t)from, (Py_ssize_t)(from + count));
         if (write == NULL || PyList_Append(found, write) < 0) {
@@ -780,8 +777,7 @@ static PyMethodDef cipher_methods[] = {
 /* ---- A record stream */
 
 typedef struct {
-    PyObject_HEAD
-    PyThread_type_lock lock;
+    PyObject_HEAD PyThread_type_lock lock;
     /* The bytes of the context, which the stream points to. */
     PyObject *context;
     uint8_t key[HUNKRAVY_RECORD_KEY_BYTES];
@@ -905,8 +901,8 @@ static int execute(PyObject *object)
     if (module->state != NULL) {
         return 0;
     }
-    module->invalid_tag = PyErr_NewExceptionWithDoc("hunkravy.InvalidTag",
-        "The tag is not that of the message, or the MAC is not that of the input.", NULL, NULL);
+    module->invalid_tag = PyErr_NewExceptionWithDoc(
+        "hunkravy.InvalidTag", "The tag is not that of the message, or the MAC is not that of the input.", NULL, NULL);
     int result = PyModule_AddObjectRef(object, "InvalidTag", module->invalid_tag);
     result = result < 0 ? result : PyModule_AddIntConstant(object, "LEVEL", hunkravy_level());
     for (size_t i = 0; result == 0 && i < sizeof specs / sizeof specs[0]; i++) {
