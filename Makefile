@@ -84,7 +84,7 @@ quick: check-pages
 quick-over-the-stand-in: | $(OUT)
 	standin/build.sh $(OUT)
 	touch $(STANDIN)
-	$(MAKE) --jobs=2 --output-sync OUT=$(OUT) $(STANDIN:%=-o %) check-header check-c-both check-rust-both test-python
+	$(MAKE) --jobs=2 --output-sync OUT=$(OUT) $(STANDIN:%=-o %) check-header check-c-both check-rust-both test-python fuzz
 
 STANDIN = $(OUT)/x86-64-v2/aegis_c.a $(OUT)/x86-64-v3/aegis_c.a
 

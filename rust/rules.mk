@@ -1,5 +1,5 @@
 # The Cargo package over the C library, and its tests.
-.PHONY: check-rust check-rust-both check-rust-tool check-raf
+.PHONY: check-rust check-rust-both check-rust-tool check-raf fuzz
 
 # Cargo on the package over a library. Debug information and what a second build would use take a third of the time.
 CARGO = cd rust && CARGO_PROFILE_DEV_DEBUG=0 CARGO_INCREMENTAL=0 HUNKRAVY_LIB_DIR="$(CURDIR)/$(OUT)/$(1)" \
@@ -14,7 +14,7 @@ check-rust-both: $(OUT)/both/libhunkravy.a
 	$(call CARGO,both) test --offline
 	if cargo clippy --version > /dev/null 2>&1 && cargo fmt --version > /dev/null 2>&1; then \
 		$(call CARGO,both) clippy --offline --all-targets -- -D warnings && \
-		cargo fmt --check && cd ../bench/package && cargo fmt --check && rustfmt --check --edition 2024 ../../standin/lib.rs; \
+		cargo fmt --check && cd ../bench/package && cargo fmt --check && rustfmt --check --edition 2024 ../../standin/lib.rs ../fuzz.rs; \
 	else \
 		echo 'left out: the lints and the layout of the Cargo package, since cargo clippy or fmt is not installed'; \
 	fi
@@ -26,6 +26,25 @@ check-rust-%: $(OUT)/%/libhunkravy.a
 # Whether the package and the file tool open each other's files.
 check-rust-tool: $(OUT)/$(lastword $(TOOL_LEVELS))/hunkravy $(LIBRARY)
 	export HUNKRAVY_TOOL="$(CURDIR)/$<"; $(call CARGO,$(FOLDER)) test --offline --test tool
+
+# Runs libFuzzer of clang for FUZZ_SECONDS on what reads files: rust/fuzz.rs, over the library with both levels. It keeps the
+# inputs that it finds below OUT, and begins with them.
+FUZZ_SECONDS = 10
+FUZZ = $(OUT)/both/fuzz
+COVERAGE = -O -C debug-assertions -C passes=sancov-module -C llvm-args=-sanitizer-coverage-level=4 \
+	-C llvm-args=-sanitizer-coverage-inline-8bit-counters -C llvm-args=-sanitizer-coverage-pc-table
+
+fuzz: $(OUT)/both/libhunkravy.a
+	if ls "$$(clang -print-runtime-dir 2> /dev/null)"/libclang_rt.fuzzer*x86_64.a > /dev/null 2>&1; then \
+		mkdir -p $(FUZZ) && rustc --edition 2024 $(COVERAGE) --crate-name hunkravy --crate-type rlib \
+			$(foreach feature,std raf-core raf,--cfg 'feature="$(feature)"') rust/src/lib.rs -o $(FUZZ)/libhunkravy.rlib && \
+		rustc --edition 2024 $(COVERAGE) --crate-type staticlib --extern hunkravy=$(FUZZ)/libhunkravy.rlib rust/fuzz.rs \
+			-o $(FUZZ)/libfuzz.a && \
+		clang -fsanitize=fuzzer $(FUZZ)/libfuzz.a $< -lpthread -ldl -lm -o $(FUZZ)/fuzz && mkdir -p $(FUZZ)/inputs && \
+		$(FUZZ)/fuzz $(FUZZ)/inputs -max_total_time=$(FUZZ_SECONDS) -max_len=200 -verbosity=0 -artifact_prefix=$(FUZZ)/; \
+	else \
+		echo 'left out: the fuzzer of files, since clang and its runtime are not installed'; \
+	fi
 
 # ---- Random-access files
 
