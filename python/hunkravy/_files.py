@@ -252,8 +252,8 @@ class SealedReader(Sealed):
     later read or seek raises it again. After any other exception of a read or of a seek in `file`, each later one raises
     `OSError`: make a new reader. The first 28 bytes are read when the reader is made. `file` is not closed.
 
-    If `file` can seek, the reader can: the place is found with the lengths of the records before it, whose contents are
-    not verified. To read line by line, wrap the reader in an `io.BufferedReader`.
+    If `file` can seek, the reader can. Unless the record of the place is where `SealedWriter` would have put it, it is found
+    with the lengths of the records before it, whose contents are not verified. To read line by line, wrap the reader in an `io.BufferedReader`.
     """
 
     _can_read = True
@@ -448,20 +448,51 @@ class SealedReader(Sealed):
         self._number = number
 
     def _go_to(self, position: Optional[int]) -> None:
-        """Opens the record that has the position, or the last one if there is none."""
+        """Opens the record that has the position, or the last one if there is none.
+
+        It is tried first where `SealedWriter` would have put it, and otherwise found from the next record on, or from the
+        first one.
+        """
         end = self._start + len(self._piece)
-        if self._is_last and (position is None or position >= end):
+        if self._is_open_at(position) and (position is None or self._start <= position):
             return
-        if position is not None and self._start <= position < end:
-            return
-        # From the next record, or from the first one.
         number, before = self._number, end
         if position is not None and position < end:
             number, before = 0, 0
+        if not self._opens_in_whole_pieces(position):
+            self._find(position, number, before)
+
+    def _is_open_at(self, position: Optional[int]) -> bool:
+        """Whether the record that was opened has the position, or is the last one."""
+        return self._is_last or (position is not None and position < self._start + len(self._piece))
+
+    def _move_to(self, number: int, before: int) -> int:
+        """Reads the head of a record, and returns the length of its message, which is not verified."""
+        self._file.seek(self._first + PREFIX_BYTES + len(HEADER) + RECORD_BYTES * number + before)
+        self._record, self._number = bytearray(), number
+        return self._read_head() - RECORD_BYTES
+
+    def _opens_in_whole_pieces(self, position: Optional[int]) -> bool:
+        """Opens the record where it is if each piece before it is whole, and returns whether it is that."""
+        size = self._file.seek(0, os.SEEK_END) - self._first - PREFIX_BYTES - len(HEADER) - RECORD_BYTES
+        pieces, rest = divmod(size, PIECE_BYTES + RECORD_BYTES)
+        if size < 0 or 0 < rest <= RECORD_BYTES:
+            return False
+        pieces += rest > 0
+        contents = size - RECORD_BYTES * pieces
+        number = pieces if position is None or position >= contents else position // PIECE_BYTES
+        before = min(contents, number * PIECE_BYTES)
+        try:
+            self._move_to(number, before)
+            self._open_at(number, before)
+        except SealedFileError:
+            return False
+        return self._is_open_at(position)
+
+    def _find(self, position: Optional[int], number: int, before: int) -> None:
+        """Opens the record that has the position, or the last one, by the lengths of those from a record on."""
         while True:
-            self._file.seek(self._first + PREFIX_BYTES + len(HEADER) + RECORD_BYTES * number + before)
-            self._record, self._number = bytearray(), number
-            length = self._read_head() - RECORD_BYTES
+            length = self._move_to(number, before)
             if self._record[0] == 1 or (position is not None and position < before + length):
                 break
             if length == 0:

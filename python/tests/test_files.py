@@ -609,6 +609,21 @@ class Reading(unittest.TestCase):
         with self.assertRaises(io.UnsupportedOperation):
             SealedReader(slow((DATA / "records.sealed").read_bytes()), KEY).seek(0)
 
+    def test_a_seek_reads_one_record(self) -> None:
+        """The records before it are not read if each has a whole piece."""
+        reads: list[Optional[int]] = []
+
+        class Counts(io.BytesIO):
+            def read(self, size: Optional[int] = -1) -> bytes:
+                reads.append(size)
+                return super().read(size)
+
+        reader = SealedReader(Counts(sealed(bytes(40 * PIECE + 9))), KEY)
+        for place in 39 * PIECE, 3 * PIECE, 40 * PIECE + 8:
+            reads.clear()
+            self.assertEqual(reader.seek(place), place)
+            self.assertLess(len(reads), 4)
+
     def test_an_end_that_is_not_verified(self) -> None:
         """The end is that of a verified record, which nothing follows."""
         data = (DATA / "records.sealed").read_bytes()
