@@ -36,5 +36,5 @@ pub use exports::ERASED;
 pub use mac::Mac;
 #[cfg(feature = "std")]
 pub use random::fill_random;
-pub use variant::{Tag, Variant};
+pub use variant::{Tag, Variant, variants};
 pub use variant::{aegis128l, aegis128x2, aegis128x4, aegis256, aegis256x2, aegis256x4};

@@ -102,7 +102,8 @@ impl<V: Variant> Drop for Run<V> {
 #[cfg(test)]
 mod tests {
     use super::Run;
-    use crate::aegis256x2::{Algorithm, Decryptor, Encryptor, Error};
+    use crate::aegis256x2::{Decryptor, Encryptor, Error};
+    use crate::variants::Aegis256X2;
     use crate::wipe::tests::left_of;
     use crate::{MAX_AEAD_BYTES, Mac};
 
@@ -110,18 +111,18 @@ mod tests {
     #[test]
     fn a_run_that_was_dropped() {
         let state = left_of(
-            Run::<Algorithm>::new(&[1; 32], &[2; 32], b"header"),
+            Run::<Aegis256X2>::new(&[1; 32], &[2; 32], b"header"),
             |run| &run.state,
         );
         assert!(state.is_zero());
-        let mac = Run::<Algorithm>::of_mac(&[1; 32], &[2; 32]);
+        let mac = Run::<Aegis256X2>::of_mac(&[1; 32], &[2; 32]);
         assert!(!mac.state.is_zero());
         assert!(left_of(mac.clone(), |run| &run.state).is_zero());
         assert!(!mac.state.is_zero());
     }
 
     /// A run that has room for one more byte.
-    fn nearly_full() -> Run<Algorithm> {
+    fn nearly_full() -> Run<Aegis256X2> {
         let mut run = Run::new(&[1; 32], &[2; 32], &[]);
         run.state.set_message_bytes(MAX_AEAD_BYTES - 1);
         run
@@ -178,7 +179,7 @@ mod tests {
     fn a_mac_panics() {
         let mut run = Run::of_mac(&[1; 32], &[2; 32]);
         run.state.set_message_bytes(MAX_AEAD_BYTES - 1);
-        let mut mac = Mac::<Algorithm, 16>::of(run);
+        let mut mac = Mac::<Aegis256X2, 16>::of(run);
         assert_eq!(mac.remaining(), 1);
         mac.update(&[0; 2]);
     }

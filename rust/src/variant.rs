@@ -7,7 +7,7 @@
 /// ```
 pub type Tag<const TAG_BYTES: usize> = [u8; TAG_BYTES];
 
-/// A variant of AEGIS. The marker of each module implements it, and is the first parameter of [`Cipher`](crate::Cipher),
+/// A variant of AEGIS. The types of [`variants`] implement it, and are the first parameter of [`Cipher`](crate::Cipher),
 /// [`Encryptor`](crate::Encryptor), [`Decryptor`](crate::Decryptor) and [`Mac`](crate::Mac).
 ///
 /// No other type can implement it. It is for code that is generic over the variant:
@@ -26,14 +26,14 @@ pub trait Variant: sealed::Sealed {
     /// A key.
     ///
     /// ```
-    /// let key: <hunkravy::aegis256::Algorithm as hunkravy::Variant>::Key = [0; 32];
+    /// let key: <hunkravy::variants::Aegis256 as hunkravy::Variant>::Key = [0; 32];
     /// ```
     type Key: AsRef<[u8]> + AsMut<[u8]> + Copy + Default;
 
     /// A nonce, which has the length of a key.
     ///
     /// ```
-    /// let nonce: <hunkravy::aegis256::Algorithm as hunkravy::Variant>::Nonce = [0; 32];
+    /// let nonce: <hunkravy::variants::Aegis256 as hunkravy::Variant>::Nonce = [0; 32];
     /// ```
     type Nonce: AsRef<[u8]> + AsMut<[u8]> + Copy + Default;
 }
@@ -62,11 +62,73 @@ pub(crate) const fn assert_tag_bytes<const TAG_BYTES: usize>() {
     }
 }
 
-/// A variant's module: a marker, which is `Copy` if the cipher is, and names for the generic types with that marker.
+/// The variants as types, for code that is generic over them.
+///
+/// ```
+/// use hunkravy::{Cipher, variants::Aegis256};
+///
+/// let cipher = Cipher::<Aegis256, 16>::new(&[1; 32], &[2; 32]);
+/// assert_eq!(format!("{cipher:?}"), "Aegis256 { .. }");
+/// ```
+pub mod variants {
+    /// Declares a variant, which is `Copy` if its cipher is.
+    macro_rules! variant {
+        ($module:ident, $standard:literal, $cipher:ident, $exports:ident $(, $copy:meta)?) => {
+            #[doc = $standard]
+            $(#[$copy])?
+            #[derive(Debug)]
+            pub struct $cipher;
+
+            impl crate::Variant for $cipher {
+                type Key = crate::$module::Key;
+                type Nonce = crate::$module::Nonce;
+            }
+
+            impl super::sealed::Sealed for $cipher {
+                const EXPORTS: crate::exports::Variant = crate::exports::$exports;
+                const MODULE: &'static str = stringify!($module);
+                const CIPHER: &'static str = stringify!($cipher);
+            }
+        };
+    }
+
+    variant!(aegis128l, "AEGIS-128L", Aegis128L, AEGIS128L);
+    variant!(
+        aegis128x2,
+        "AEGIS-128X2",
+        Aegis128X2,
+        AEGIS128X2,
+        derive(Clone, Copy)
+    );
+    variant!(
+        aegis128x4,
+        "AEGIS-128X4",
+        Aegis128X4,
+        AEGIS128X4,
+        derive(Clone, Copy)
+    );
+    variant!(aegis256, "AEGIS-256", Aegis256, AEGIS256);
+    variant!(
+        aegis256x2,
+        "AEGIS-256X2",
+        Aegis256X2,
+        AEGIS256X2,
+        derive(Clone, Copy)
+    );
+    variant!(
+        aegis256x4,
+        "AEGIS-256X4",
+        Aegis256X4,
+        AEGIS256X4,
+        derive(Clone, Copy)
+    );
+}
+
+/// A variant's module: names for the generic types with that variant.
 macro_rules! module {
     (
         $(#[$use:meta])*
-        mod $module:ident, $standard:literal, $cipher:ident, $mac:ident, $exports:ident, $bytes:literal $(, $copy:meta)?
+        mod $module:ident, $standard:literal, $cipher:ident, $mac:ident, $bytes:literal
     ) => {
         #[doc = concat!($standard, ": keys and nonces of ", $bytes, " bytes.")]
         ///
@@ -99,29 +161,6 @@ macro_rules! module {
             /// ```
             pub type Nonce = [u8; $bytes];
 
-            #[doc = concat!("The marker of ", $standard, ".")]
-            ///
-            /// ```
-            #[doc = concat!("use hunkravy::{Cipher, ", stringify!($module), "::Algorithm};")]
-            ///
-            #[doc = concat!("let cipher = Cipher::<Algorithm, 16>::new(&[1; ", $bytes, "], &[2; ", $bytes, "]);")]
-            #[doc = concat!("assert_eq!(format!(\"{cipher:?}\"), \"", stringify!($cipher), " { .. }\");")]
-            /// ```
-            $(#[$copy])?
-            #[derive(Debug)]
-            pub struct Algorithm;
-
-            impl crate::Variant for Algorithm {
-                type Key = Key;
-                type Nonce = Nonce;
-            }
-
-            impl super::sealed::Sealed for Algorithm {
-                const EXPORTS: crate::exports::Variant = crate::exports::$exports;
-                const MODULE: &'static str = stringify!($module);
-                const CIPHER: &'static str = stringify!($cipher);
-            }
-
             #[doc = concat!($standard, " under a key and a nonce. [`Cipher`](crate::Cipher) has its functions.")]
             ///
             /// ```
@@ -130,7 +169,7 @@ macro_rules! module {
             #[doc = concat!("let cipher = ", stringify!($cipher), "::<32>::new(&[1; ", $bytes, "], &[2; ", $bytes, "]);")]
             /// let (ciphertext, tag) = cipher.encrypt(b"a message", b"header");
             /// ```
-            pub type $cipher<const TAG_BYTES: usize> = crate::Cipher<Algorithm, TAG_BYTES>;
+            pub type $cipher<const TAG_BYTES: usize> = crate::Cipher<crate::variants::$cipher, TAG_BYTES>;
 
             #[doc = concat!("Encrypts a message of ", $standard, " in chunks.")]
             ///
@@ -143,7 +182,7 @@ macro_rules! module {
             /// encryptor.update_in_place(&mut chunk);
             /// let tag = encryptor.finalize();
             /// ```
-            pub type Encryptor<const TAG_BYTES: usize> = crate::Encryptor<Algorithm, TAG_BYTES>;
+            pub type Encryptor<const TAG_BYTES: usize> = crate::Encryptor<crate::variants::$cipher, TAG_BYTES>;
 
             #[doc = concat!("Decrypts a message of ", $standard, " in chunks.")]
             ///
@@ -162,7 +201,7 @@ macro_rules! module {
             /// assert_eq!(decryptor.finalize(&tag)?, b"a chunk");
             /// # Ok::<(), Error>(())
             /// ```
-            pub type Decryptor<'a, const TAG_BYTES: usize> = crate::Decryptor<'a, Algorithm, TAG_BYTES>;
+            pub type Decryptor<'a, const TAG_BYTES: usize> = crate::Decryptor<'a, crate::variants::$cipher, TAG_BYTES>;
 
             #[doc = concat!("The MAC of ", $standard, ". [`Mac`](crate::Mac) has its functions.")]
             ///
@@ -175,32 +214,32 @@ macro_rules! module {
             /// again.verify(&mac.finalize())?;
             /// # Ok::<(), Error>(())
             /// ```
-            pub type $mac<const TAG_BYTES: usize> = crate::Mac<Algorithm, TAG_BYTES>;
+            pub type $mac<const TAG_BYTES: usize> = crate::Mac<crate::variants::$cipher, TAG_BYTES>;
         }
     };
 }
 
 module! {
     /// Faster than AEGIS-256. Generate at most 2^48 random nonces under one key.
-    mod aegis128l, "AEGIS-128L", Aegis128L, Aegis128LMac, AEGIS128L, 16
+    mod aegis128l, "AEGIS-128L", Aegis128L, Aegis128LMac, 16
 }
 module! {
     /// For data of other programs that use it.
-    mod aegis128x2, "AEGIS-128X2", Aegis128X2, Aegis128X2Mac, AEGIS128X2, 16, derive(Clone, Copy)
+    mod aegis128x2, "AEGIS-128X2", Aegis128X2, Aegis128X2Mac, 16
 }
 module! {
     /// For data of other programs that use it.
-    mod aegis128x4, "AEGIS-128X4", Aegis128X4, Aegis128X4Mac, AEGIS128X4, 16, derive(Clone, Copy)
+    mod aegis128x4, "AEGIS-128X4", Aegis128X4, Aegis128X4Mac, 16
 }
 module! {
     /// Use it unless you have a reason for another. Nonces may be random.
-    mod aegis256, "AEGIS-256", Aegis256, Aegis256Mac, AEGIS256, 32
+    mod aegis256, "AEGIS-256", Aegis256, Aegis256Mac, 32
 }
 module! {
     /// For data of other programs that use it. Nonces may be random.
-    mod aegis256x2, "AEGIS-256X2", Aegis256X2, Aegis256X2Mac, AEGIS256X2, 32, derive(Clone, Copy)
+    mod aegis256x2, "AEGIS-256X2", Aegis256X2, Aegis256X2Mac, 32
 }
 module! {
     /// For data of other programs that use it. Nonces may be random.
-    mod aegis256x4, "AEGIS-256X4", Aegis256X4, Aegis256X4Mac, AEGIS256X4, 32, derive(Clone, Copy)
+    mod aegis256x4, "AEGIS-256X4", Aegis256X4, Aegis256X4Mac, 32
 }

@@ -1,7 +1,6 @@
 //! What calls leave in their buffers, above all those that refuse.
 
-use hunkravy::{Cipher, Error, Variant};
-use hunkravy::{aegis128l, aegis128x2, aegis128x4, aegis256, aegis256x2, aegis256x4};
+use hunkravy::{Cipher, Error, Variant, variants};
 use std::panic::{AssertUnwindSafe, catch_unwind};
 
 /// What stands in a destination before a call.
@@ -26,12 +25,12 @@ macro_rules! in_each_variant {
     ($($check:ident)*) => {$(
         #[test]
         fn $check() {
-            checks::$check::<aegis128l::Algorithm>();
-            checks::$check::<aegis128x2::Algorithm>();
-            checks::$check::<aegis128x4::Algorithm>();
-            checks::$check::<aegis256::Algorithm>();
-            checks::$check::<aegis256x2::Algorithm>();
-            checks::$check::<aegis256x4::Algorithm>();
+            checks::$check::<variants::Aegis128L>();
+            checks::$check::<variants::Aegis128X2>();
+            checks::$check::<variants::Aegis128X4>();
+            checks::$check::<variants::Aegis256>();
+            checks::$check::<variants::Aegis256X2>();
+            checks::$check::<variants::Aegis256X4>();
         }
     )*};
 }

@@ -1,7 +1,6 @@
 //! The stored lines of `crates/test_agreement/data`, each through every call of the crate that gives its answer.
 
-use hunkravy::{Cipher, ERASED, Error, Mac, Variant};
-use hunkravy::{aegis128l, aegis128x2, aegis128x4, aegis256, aegis256x2, aegis256x4};
+use hunkravy::{Cipher, ERASED, Error, Mac, Variant, variants};
 use std::fs;
 use std::path::Path;
 
@@ -216,12 +215,12 @@ fn answers<V: Variant>(long_tag: bool) -> fn(&[&str]) -> String {
 fn line_answer(line: &str) -> String {
     let fields: Vec<&str> = line.split(' ').collect();
     let of_variant = match fields[1] {
-        "aegis128l" => answers::<aegis128l::Algorithm>,
-        "aegis128x2" => answers::<aegis128x2::Algorithm>,
-        "aegis128x4" => answers::<aegis128x4::Algorithm>,
-        "aegis256" => answers::<aegis256::Algorithm>,
-        "aegis256x2" => answers::<aegis256x2::Algorithm>,
-        "aegis256x4" => answers::<aegis256x4::Algorithm>,
+        "aegis128l" => answers::<variants::Aegis128L>,
+        "aegis128x2" => answers::<variants::Aegis128X2>,
+        "aegis128x4" => answers::<variants::Aegis128X4>,
+        "aegis256" => answers::<variants::Aegis256>,
+        "aegis256x2" => answers::<variants::Aegis256X2>,
+        "aegis256x4" => answers::<variants::Aegis256X4>,
         name => panic!("{name} is no variant"),
     };
     if matches!(fields[0], "stream" | "xor") {

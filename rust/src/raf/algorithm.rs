@@ -1,12 +1,7 @@
-//! The algorithm of a file: a type and a value.
+//! The variant of a file, which the crate `aegis` calls its algorithm: a type and a value.
 
 pub use crate::Variant as Algorithm;
-pub use crate::aegis128l::Algorithm as Aegis128L;
-pub use crate::aegis128x2::Algorithm as Aegis128X2;
-pub use crate::aegis128x4::Algorithm as Aegis128X4;
-pub use crate::aegis256::Algorithm as Aegis256;
-pub use crate::aegis256x2::Algorithm as Aegis256X2;
-pub use crate::aegis256x4::Algorithm as Aegis256X4;
+pub use crate::variants::{Aegis128L, Aegis128X2, Aegis128X4, Aegis256, Aegis256X2, Aegis256X4};
 
 /// The algorithm that a header names.
 #[derive(Clone, Copy, Debug, PartialEq, Eq, Hash)]
