@@ -1,8 +1,7 @@
 //! The functions of `libhunkravy.a` as safe functions over slices.
 //!
-//! The library checks each length, and borrowing ensures everything else. This file needs nothing else of the crate: a program
-//! that is built without Cargo can include it as a module with `#[path]`.
-#![allow(dead_code)]
+//! The library checks each length, and borrowing ensures everything else.
+#![cfg_attr(not(feature = "raf-core"), allow(dead_code))]
 #![deny(missing_docs)]
 #![deny(unsafe_op_in_unsafe_fn)]
 
@@ -590,11 +589,6 @@ pub const AEGIS256: Variant = variant("aegis256", 32, 1, 3);
 pub const AEGIS256X2: Variant = variant("aegis256x2", 32, 2, 4);
 /// AEGIS-256X4.
 pub const AEGIS256X4: Variant = variant("aegis256x4", 32, 4, 5);
-
-/// All six.
-pub const VARIANTS: [Variant; 6] = [
-    AEGIS128L, AEGIS128X2, AEGIS128X4, AEGIS256, AEGIS256X2, AEGIS256X4,
-];
 
 #[cfg(test)]
 mod tests;
