@@ -89,6 +89,9 @@ done
 "${install_to[@]}" "$work/site" "$dist"/*_x86_64.whl
 folder=$work/empty/hunkravy-$version-x86_64-linux
 
+# Nothing is linked with the stand-in for the proved library.
+if grep -rFl 'a stand-in for hunkravy' "$work/empty" "$work/site" "$work/system"; then fail 'these files have the stand-in'; fi
+
 # has FILE EXPRESSION: whether a line of a file is matched.
 has() {
     grep -q "$2" "$1" || fail "$1 does not have $2"
