@@ -17,12 +17,13 @@ Exit status:
   1  the sealed file is rejected, or --from is past its end
   2  the command line is wrong
   3  any other failure: I/O, memory, a bad key file, or a rejected OUT
+  127  the processor is too old, or the build for it is missing
 
 Files:
   Outputs get mode 0600. File names must be UTF-8.
   OUT is first written in its folder as .OUT.hunkravy- and 16 hexadecimal digits,
-  and renamed when it is complete. An interrupted run leaves that file. It may hold
-  plaintext: delete it, unless a run is still writing it. To find all of them:
+  and gets its name when it is complete. An interrupted run leaves that file. It may
+  hold plaintext: delete it, unless a run is still writing it. To find all of them:
   find . -name '.*.hunkravy-*'. Only --force replaces an existing file.
   In a pipeline, seal cannot see that the command before it failed.
   A key file has 64 hexadecimal digits and a line feed. -k - reads the key from
