@@ -1,7 +1,6 @@
 /*
  * Hunkravy: the six AEGIS ciphers, and their MACs and keystreams, for Linux on x86-64-v2 or better and on aarch64.
- * Record streams are in hunkravy_records.h, and the pages of files that are written in place in hunkravy_pages.h. No
- * function allocates memory.
+ * Record streams are in hunkravy_records.h, and random-access files in hunkravy_pages.h. No function allocates memory.
  *
  * Build a program with `cc program.c $(pkg-config --cflags --libs hunkravy)`. After `make install PREFIX=/some/where`
  * set PKG_CONFIG_PATH to /some/where/lib/pkgconfig first, and LD_LIBRARY_PATH to /some/where/lib to run the program.
@@ -14,14 +13,14 @@
  * - a message in another buffer: hunkravy_encrypt, hunkravy_decrypt; with the tag after the ciphertext:
  *   hunkravy_encrypt_combined, hunkravy_decrypt_combined; to verify only: hunkravy_verify;
  * - a message in chunks: hunkravy_state_init, then hunkravy_state_encrypt_in_place and hunkravy_state_encrypt_final;
- * - a ciphertext in chunks that can be read twice: hunkravy_state_init, hunkravy_state_decrypt_check and
- *   hunkravy_state_decrypt_final with 0 bytes; then the same again, with
- *   hunkravy_state_decrypt_in_place_unverified in place of hunkravy_state_decrypt_check;
+ * - a ciphertext in chunks that can be read twice, in two passes. To verify: hunkravy_state_init,
+ *   hunkravy_state_decrypt_check.., hunkravy_state_decrypt_final(NULL, 0). To decrypt: the same functions again, with
+ *   hunkravy_state_decrypt_in_place_unverified.. in the middle;
  * - a ciphertext in chunks that can be read once: hunkravy_state_decrypt_in_place_unverified, and
  *   hunkravy_state_decrypt_final with the whole message;
  * - a MAC: hunkravy_mac, hunkravy_mac_verify, hunkravy_mac_init; a keystream: hunkravy_stream.
  *
- * NEVER DO THIS. Nothing detects it:
+ * RULES. Nothing checks them:
  *
  * - Do not encrypt two messages with the same key and nonce, and do not use a nonce for both a message and a
  *   keystream. An attacker then learns about both messages, and may forge others. Nonces of 32 bytes can be random.
