@@ -130,6 +130,20 @@ command=$(sed -n 's/^1\. .*`\(sha256sum [^`]*\)`.*/\1/p' dist/VERIFY.md)
 (cd "$dist" && $command --strict --quiet && diff <(ls | sort) <((echo SHA256SUMS; cut -c 67- SHA256SUMS) | sort)) ||
     fail 'the sums are not those of the files'
 
+# A signature of them verifies by the command of the page. One of other sums, or by another key, does not.
+command=$(sed -n 's/^ *\(ssh-keygen -Y verify .*\)$/\1/p' dist/VERIFY.md)
+for key in key other; do ssh-keygen -q -t ed25519 -N '' -f "$work/$key"; done
+echo "hunkravy $(cat "$work/key.pub")" > "$work/signers"
+verifies() {
+    cp "$dist/SHA256SUMS" "$work"
+    rm -f "$work/SHA256SUMS.sig"
+    ssh-keygen -q -Y sign -f "$work/$1" -n hunkravy "$work/SHA256SUMS"
+    sed -i "$2" "$work/SHA256SUMS"
+    (cd "$work" && eval "$command" > "$work/said" 2>&1)
+}
+verifies key '' || fail "$(cat "$work/said")"
+if verifies key '1s/^./x/' || verifies other ''; then fail 'a wrong signature is accepted'; fi
+
 # The size and the changelog of each package. The sums in each package and in the wheel are those of all of its files, and
 # programs that are built over the shared library depend on this version of it.
 for package in "$dist"/*.deb; do
