@@ -14,7 +14,7 @@ check-rust-both: $(OUT)/both/libhunkravy.a
 	$(call CARGO,both) test --offline
 	if cargo clippy --version > /dev/null 2>&1 && cargo fmt --version > /dev/null 2>&1; then \
 		$(call CARGO,both) clippy --offline --all-targets -- -D warnings && \
-		cargo fmt --check && cd ../bench/package && cargo fmt --check && rustfmt --check --edition 2024 ../../standin/lib.rs ../fuzz.rs; \
+		cargo fmt --check && cd ../bench/package && cargo fmt --check && rustfmt --check --edition 2024 ../../standin/lib.rs ../../rust/fuzz.rs; \
 	else \
 		echo 'left out: the lints and the layout of the Cargo package, since cargo clippy or fmt is not installed'; \
 	fi
