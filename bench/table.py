@@ -7,6 +7,7 @@ the text of TEXT, a page too, up to the line on the processor.
 
 import re
 import sys
+import textwrap
 from pathlib import Path
 
 # The flags of instructions on vectors or for ciphers.
@@ -17,7 +18,8 @@ def processor() -> str:
     """The line on the processor."""
     fields = dict(re.findall(r"^(model name|cpu MHz|flags)\s*: (.*)$", Path("/proc/cpuinfo").read_text(), re.M))
     flags = " ".join(filter(FLAGS.fullmatch, fields["flags"].split()))
-    return f"Processor: {fields['model name']}, {float(fields['cpu MHz']):.0f} MHz, with {flags}."
+    line = f"Processor: {fields['model name']}, {float(fields['cpu MHz']):.0f} MHz, with {flags}."
+    return textwrap.fill(line, 120, break_on_hyphens=False)
 
 
 def cell(turns: list[tuple[float, int]]) -> str:
