@@ -1,11 +1,12 @@
 /*
- * Encrypts in place with the library and with libsodium, in one process and in turns, and prints the time of each turn for
- * table.py.
+ * Encrypts in place with the library and with libsodium, in one process and in turns, and prints the time of each turn
+ * for table.py.
  *
  * libsodium's AEGIS is measured before sodium_init, where it runs in software, and after it, where it runs with the
- * processor's AES instructions; its ChaCha20-Poly1305 and its AES-256-GCM, which needs these instructions, after it. How fast
- * a loop is depends on where its vectors on the stack lie in the lines of the cache, so the turns are made at four places of
- * the stack. Each call does all of its work on one message with no associated data. AEGIS makes tags of 32 bytes.
+ * processor's AES instructions; its ChaCha20-Poly1305 and its AES-256-GCM, which needs these instructions, after it.
+ * How fast a loop is depends on where its vectors on the stack lie in the lines of the cache, so the turns are made at
+ * four places of the stack. Each call does all of its work on one message with no associated data. AEGIS makes tags of
+ * 32 bytes.
  */
 #include "hunkravy.h"
 

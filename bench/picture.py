@@ -6,7 +6,7 @@ from pathlib import Path
 
 BAR, GAP, LEFT, TOP, HEIGHT, STEP = 26, 34, 56, 56, 240, 250
 SIZES = {"64 bytes": "#c6dbef", "1 KiB": "#9ecae1", "16 KiB": "#4292c6", "1 MiB": "#08519c"}
-# What a name in the table is in the picture. AEGIS by AES instructions is left out: its bars would be eight times as long.
+# What a name in the table is in the picture. AEGIS with AES instructions is left out: its bars are eight times as long.
 NAMES = {
     "libsodium ChaCha20-Poly1305": "ChaCha20-Poly1305",
     "libsodium AES-256-GCM, AES instructions": "AES-256-GCM (AES-NI)",
@@ -44,7 +44,8 @@ def picture(rows: dict[str, list[int]]) -> list[str]:
         lines.append(text(left + 2 * BAR, TOP + HEIGHT + 18, "middle", name))
     box = f'viewBox="0 0 {width} {TOP + HEIGHT + 36}" font-family="sans-serif" font-size="11"'
     title = text(LEFT, 18, "start", "Encryption in place at x86-64-v3, in MB/s, beside libsodium")
-    return [f'<svg xmlns="http://www.w3.org/2000/svg" {box}>', rectangle(0, 0, width, TOP + HEIGHT + 36, "white"), title, *lines]
+    ground = rectangle(0, 0, width, TOP + HEIGHT + 36, "white")
+    return [f'<svg xmlns="http://www.w3.org/2000/svg" {box}>', ground, title, *lines]
 
 
 def main(page: str) -> None:

@@ -1,6 +1,6 @@
 /*
- * Encrypts 1 GiB of memory in pieces of 64 KiB with AEGIS-256 with tags of 32 bytes, as the records of a sealed file are. Its
- * processor time is what bench/tool.sh compares the file tool with.
+ * Encrypts 1 GiB of memory in pieces of 64 KiB with AEGIS-256 and tags of 32 bytes, like the records of a sealed file.
+ * bench/tool.sh compares the file tool with its processor time.
  */
 #include <hunkravy.h>
 #include <stdlib.h>

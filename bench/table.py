@@ -1,8 +1,8 @@
 """Writes the table of a page in bench/: PROGRAM | table.py PAGE TEXT
 
-PROGRAM writes a line for each turn, with tabs between: the row, the column, seconds, and bytes. A cell has the shortest time
-of its turns: as MB/s, or in seconds if there are no bytes. A line without tabs comes after the table. The page begins with
-the text of TEXT, a page too, up to the line on the processor.
+PROGRAM writes a line for each turn, with tabs between: the row, the column, seconds, and bytes. A cell has the shortest
+time of its turns: as MB/s, or in seconds if there are no bytes. A line without tabs comes after the table. The page
+begins with the text of TEXT, a page too, up to the line on the processor.
 """
 
 import re

@@ -1,4 +1,5 @@
-//! Measures `raf` in a file beside a plain file and AEGIS-256 in memory, and prints the time of each turn for `table.py`.
+//! Measures `raf` in a file beside a plain file and AEGIS-256 in memory, and prints the time of each turn for
+//! `table.py`.
 //!
 //! Its argument is the path of a file, which it makes and removes. With `check` after it the contents are short.
 

@@ -1,9 +1,10 @@
 /*
  * The names of the library's functions, over its builds for two processor levels.
  *
- * Each name jumps through a pointer. A constructor sets all pointers once, to the build for x86-64-v3 if the processor and
- * the system have that level, and then makes their page read-only. Before that they lead to the build for x86-64-v2. join.sh compiles this file and writes exports.h, a line EXPORT(NAME) for each function. With HUNKRAVY_LEVEL the
- * library is one build alone, and nothing is chosen.
+ * Each name jumps through a pointer. A constructor sets all pointers once, to the build for x86-64-v3 if the processor
+ * and the system have that level, and then makes their page read-only. Before that they lead to the build for
+ * x86-64-v2. join.sh compiles this file and writes exports.h, a line EXPORT(NAME) for each function. With
+ * HUNKRAVY_LEVEL the library is one build alone, and nothing is chosen.
  */
 int hunkravy_level(void);
 

@@ -252,8 +252,9 @@ class SealedReader(Sealed):
     later read or seek raises it again. After any other exception of a read or of a seek in `file`, each later one raises
     `OSError`: make a new reader. The first 28 bytes are read when the reader is made. `file` is not closed.
 
-    If `file` can seek, the reader can. Unless the record of the place is where `SealedWriter` would have put it, it is found
-    with the lengths of the records before it, whose contents are not verified. To read line by line, wrap the reader in an `io.BufferedReader`.
+    If `file` can seek, the reader can. Unless the record of the place is where `SealedWriter` would have put it, it is
+    found with the lengths of the records before it, whose contents are not verified. To read line by line, wrap the
+    reader in an `io.BufferedReader`.
     """
 
     _can_read = True
