@@ -9,6 +9,7 @@ use core::fmt;
 /// A record that was opened.
 #[derive(Clone, Debug, PartialEq, Eq)]
 #[must_use]
+#[non_exhaustive]
 pub struct Opened<'b> {
     /// Its message.
     pub message: Vec<u8>,
@@ -21,6 +22,7 @@ pub struct Opened<'b> {
 /// A record that was opened in place.
 #[derive(Debug, PartialEq, Eq)]
 #[must_use]
+#[non_exhaustive]
 pub struct OpenedInPlace<'b> {
     /// Its message.
     pub message: &'b mut [u8],
