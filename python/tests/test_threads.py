@@ -249,7 +249,7 @@ sys.modules["kept"] = Last()
     def ends(self, objects: str) -> str:
         """What the program with these objects writes until it ends."""
         command = [sys.executable, "-c", self.program.format(objects)]
-        return subprocess.run(command, stdout=subprocess.PIPE, check=True, text=True, timeout=30).stdout
+        return subprocess.run(command, stdout=subprocess.PIPE, check=True, text=True, timeout=200).stdout
 
     def test_native_objects(self) -> None:
         for objects in (
