@@ -243,6 +243,7 @@ VERSIONED = {
     "rust/Cargo.toml": 'version = "{0}"\n',
     "rust/Cargo.lock": 'name = "hunkravy"\nversion = "{0}"\n',
     "README.md": "hunkravy-{0}-x86_64-linux",
+    "rust/README.md": "hunkravy-{0}-x86_64-linux",
 }
 
 
