@@ -4,6 +4,7 @@
 set -euo pipefail
 version=$1 out=$2
 . tools/revision.sh
+. dist/project.sh
 SOURCE_DATE_EPOCH=${SOURCE_DATE_EPOCH:-$(revision_time)}
 COMMIT=${COMMIT:-$(revision)}
 export SOURCE_DATE_EPOCH
@@ -43,6 +44,9 @@ archive() {
     if [ "$1" = x86_64 ]; then install_to "$folder" install-tool PREFIX= CPU=both; fi
     mkdir -p "$folder/rust/lib" "$folder/python"
     cp -R rust/Cargo.toml rust/Cargo.lock rust/build.rs rust/src rust/examples "$folder/rust"
+    for link in ${homepage:+"homepage = \"$homepage\""} ${repository:+"repository = \"$repository\""}; do
+        sed -i "/^license = /a $link" "$folder/rust/Cargo.toml"
+    done
     cp "$folder/lib/libhunkravy.a" "$folder/rust/lib"
     cp -R python/build_wheel.py python/pyproject.toml python/hunkravy python/native python/examples "$wheel" "$folder/python"
     # What Python and an editable installation leave beside the sources.
@@ -60,10 +64,9 @@ archive() {
     cp "$wheel" "$out/dist"
 }
 
-# package NAME SECTION DEPENDS DESCRIPTION MORE: the Debian package of the files in work/NAME. No mail reaches the address yet.
+# package NAME SECTION DEPENDS DESCRIPTION MORE: the Debian package of the files in work/NAME.
 package() {
     local folder=$work/$1 doc=$work/$1/usr/share/doc/$1 size
-    local maintainer='The Hunkravy authors <maintainers@users.noreply.hunkravy.example>'
     mkdir -p "$folder/DEBIAN" "$doc"
     (cat dist/copyright && sed -n '/^Permission/,$p' LICENSE | sed 's/^$/./; s/^/ /') > "$doc/copyright"
     printf 'hunkravy (%s) unstable; urgency=medium\n\n  * See /usr/share/doc/%s/CHANGELOG.md.gz.\n\n -- %s  %s\n' "$version" "$1" \
@@ -87,6 +90,7 @@ Description: $4
  $5
 END
     case $1 in lib*) sed -i '/^Depends: /i Multi-Arch: same' "$folder/DEBIAN/control" ;; esac
+    if [ -n "$homepage" ]; then sed -i "/^Section: /i Homepage: $homepage" "$folder/DEBIAN/control"; fi
     settle "$folder"
     dpkg-deb --root-owner-group -Zxz --build "$folder" "$out/dist/$1_${version}_$ARCHITECTURE.deb" > /dev/null
     rm -r "$folder"
