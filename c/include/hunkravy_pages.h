@@ -1,13 +1,13 @@
 /*
- * Files that are written in place: their contents are encrypted page by page. These functions encrypt and decrypt a
- * page or a header, and make and read the journal of a commit. Your program reads and writes the file and the journal.
+ * Random-access files: contents that are encrypted page by page. These functions encrypt and decrypt a page or a
+ * header, and make and read the journal of a commit. Your program reads and writes the file and the journal.
  *
  * A crash while you write MAY LOSE THE FILE, unless you write through a journal: see "The journal" below. The
  * example file.c does so, and so do `raf` of the Cargo package and the Rattle crate `aegis_pages`.
  *
  * The contents are split into pages of one size. Each page is encrypted separately, with any variant and a tag of 32
  * bytes. A page decrypts only under its number and the id of its file. An older page of the same number decrypts too.
- * `aegis_pages` and `raf` read and write the same files; docs/RANDOM-ACCESS.md in the repository defines the format.
+ * `aegis_pages` and `raf` read and write the same files; RANDOM-ACCESS.md defines the format.
  *
  * A file begins with a header block of HUNKRAVY_PAGE_HEADER_BLOCK_BYTES: the variant, the page size, the file's id, a
  * counter, and the length of the contents. The pages begin at byte HUNKRAVY_PAGE_FIRST. All pages have the full

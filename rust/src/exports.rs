@@ -320,7 +320,7 @@ impl State {
     }
 }
 
-/// The contents of a header of a file of sealed pages.
+/// The contents of a header of a random-access file.
 #[derive(Clone, Copy, Debug, Default, PartialEq, Eq)]
 pub struct PageHeader {
     /// How many bytes of contents a page has, from 256 to 65,536.
