@@ -2,10 +2,10 @@
  * Hunkravy: the six AEGIS ciphers, and their MACs and keystreams, for Linux on x86-64-v2 or better and on aarch64.
  * Record streams are in hunkravy_records.h, and random-access files in hunkravy_pages.h. No function allocates memory.
  *
- * Build a program with `cc program.c $(pkg-config --cflags --libs hunkravy)`. After `make install PREFIX=/some/where`
- * set PKG_CONFIG_PATH to /some/where/lib/pkgconfig first, and LD_LIBRARY_PATH to /some/where/lib to run the program.
- * After an installation in /usr/local run ldconfig once. To link the static library use -l:libhunkravy.a in place of
- * -lhunkravy. Examples are installed in share/doc/hunkravy/examples.
+ * Build a program with `cc program.c $(pkg-config --cflags --libs hunkravy)`. If the library is in /some/where, set
+ * PKG_CONFIG_PATH to /some/where/lib/pkgconfig first, and LD_LIBRARY_PATH to /some/where/lib to run the program. If it
+ * is in /usr/local, run ldconfig once. To link the static library use -l:libhunkravy.a in place of -lhunkravy. Examples
+ * are in share/doc/hunkravy/examples.
  *
  * FUNCTIONS FOR
  *
