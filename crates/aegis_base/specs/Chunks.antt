@@ -2,7 +2,7 @@
 use Rattle.std.specs.Prelude.{ℕ, ◌+◌, ◌++◌, ◌&&◌, List, [], ◌∷◌, drop, if◌then◌else◌, leb, length, map, replicate}
 use Rattle.std.specs.Borrow.{Bor}
 use Rattle.std.specs.List.{concat}
-use Rattle.aegis_base.specs.declared.error.TheConstants.{MAX_AEAD_BYTES}
+use Rattle.aegis_base.specs.Limits.{max_aead_bytes}
 use Rattle.aegis_base.specs.Message.{Opens}
 use Rattle.aegis_base.specs.Context.{KeyAndNonce}
 use Rattle.aegis_base.specs.Variant.{Variant}
@@ -18,7 +18,7 @@ joined chunks = concat (map (λ chunk. chunk.now) chunks)
 -- the kept bytes, and then one more chunk if it fits in a destination of `room` bytes and within the limit on a message
 abbrev pub keep_chunk : ℕ → List ℕ → List ℕ → List ℕ
 keep_chunk room kept chunk =
-    if leb (length kept + length chunk) room && leb (length kept + length chunk) MAX_AEAD_BYTES then kept ++ chunk else kept
+    if leb (length kept + length chunk) room && leb (length kept + length chunk) max_aead_bytes then kept ++ chunk else kept
 
 -- the kept bytes after all of these chunks
 unfoldable pub accepted_after : ℕ → List ℕ → List (Bor (List ℕ)) → List ℕ

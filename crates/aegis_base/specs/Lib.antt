@@ -1,6 +1,7 @@
 pub mod Chunks
 pub mod Lane
 pub mod Laws
+pub mod Limits
 pub mod Mac
 pub mod Message
 pub mod Context

@@ -5,7 +5,17 @@ ghost use Rattle.std.specs.Prelude.{◌≡◌, ℕ};
 ghost use Rattle.aegis_aes.specs.Lanes.{IsLaneCount};
 ghost use Rattle.aegis_base.specs.Variant.{Variant};
 ghost use Rattle.aegis_base.specs.Lane.{IsTagLength};
+ghost use Rattle.aegis_base.specs.Limits.{max_aead_bytes};
 ghost use Rattle.aegis_base.specs.Laws.{AreLanesIndependent, IsCiphertextPrefix, IsKeystreamShared, IsLengthKept, IsMacLong, IsMacOfTags, IsOneToOne, IsOnto, IsInitPlain, IsKeystreamPrefix, IsKeystreamSealedZeros, IsKeystreamUndone, IsTagLong};
+
+use crate::error::MAX_AEAD_BYTES;
+
+/// The limit on lengths is that of the definitions.
+pub fn limits()
+    ensures { MAX_AEAD_BYTES ≡ max_aead_bytes }
+{
+    let _limit = MAX_AEAD_BYTES;
+}
 
 /// Under each key, nonce and associated data, encryption is one-to-one and onto on the messages of each length: a
 /// ciphertext is as long as its message, no two messages have the same ciphertext, and every list of bytes is the

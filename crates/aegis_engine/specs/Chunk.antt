@@ -2,20 +2,20 @@
 use Rattle.std.specs.Prelude.{◌≡◌, ℕ, ◌<◌, ◌≤◌, ◌↔◌, IsOk, List, Result, Err, drop, length, take}
 use Rattle.aegis_base.specs.declared.error.Error.{Error}
 use Rattle.aegis_base.specs.declared.error.Error.TheVariants as errors
-use Rattle.aegis_base.specs.declared.error.TheConstants.{MAX_AEAD_BYTES}
+use Rattle.aegis_base.specs.Limits.{max_aead_bytes}
 
 -- A message of so many bytes fits in a destination of `room` bytes.
 pub record Fits (message_bytes room : ℕ) : Type 0 where
   pub within : message_bytes ≤ room
-  pub limit : message_bytes ≤ MAX_AEAD_BYTES
+  pub limit : message_bytes ≤ max_aead_bytes
 
 -- The answer to a chunk with which the message would have so many bytes.
 pub record AnswersChunk {A : Type 0} (message_bytes room : ℕ) (result : Result A Error) : Type 0 where
   -- the destination has no room for it
   pub too_small : (result ≡ Err errors.OutputBufferTooSmall) ↔ (room < message_bytes)
   -- there is room, but no message is so long
-  pub too_long : (result ≡ Err errors.MessageTooLong) ↔ ((message_bytes ≤ room) × (MAX_AEAD_BYTES < message_bytes))
-  pub accepted : IsOk result ↔ ((message_bytes ≤ room) × (message_bytes ≤ MAX_AEAD_BYTES))
+  pub too_long : (result ≡ Err errors.MessageTooLong) ↔ ((message_bytes ≤ room) × (max_aead_bytes < message_bytes))
+  pub accepted : IsOk result ↔ ((message_bytes ≤ room) × (message_bytes ≤ max_aead_bytes))
 
 -- A destination was `old` with a message of `before` bytes, and is `new` with one of `after` bytes. No other bytes have changed
 -- than those by which the message has grown.

@@ -5,7 +5,10 @@ use Rattle.aegis_base.specs.Message.{block_count, ciphertext}
 use Rattle.aegis_base.specs.Context.{Held, Stands, held_by}
 use Rattle.aegis_base.specs.Saved.{saved_lane}
 use Rattle.aegis_engine.specs.declared.saved.SavedContext.{SavedContext}
-use Rattle.aegis_engine.specs.declared.saved.TheConstants.{BEGUN}
+
+-- the mark of a context that was begun and has not ended: `aegis-ru` in ASCII
+abbrev pub begun_mark : ℕ
+begun_mark = 0x6165_6769_732d_7275
 
 -- the values that a saved context holds; the number of updates is not saved, since it follows from the numbers of bytes
 abbrev pub held_in : (variant : Variant) (context : SavedContext) → Held
@@ -15,7 +18,7 @@ held_in variant context =
 
 -- `context` has the mark, and stands for this key, nonce, associated data and message so far
 unfoldable pub IsSaved : (variant : Variant) (context : SavedContext) (key nonce ad m : List ℕ) → Type 0
-IsSaved variant context key nonce ad m = (context.mark ≡ BEGUN) × Stands variant (held_in variant context) key nonce ad m
+IsSaved variant context key nonce ad m = (context.mark ≡ begun_mark) × Stands variant (held_in variant context) key nonce ad m
 
 -- if `old` stands for some message, `new` stands for it with these bytes appended
 abbrev pub HasTaken : (variant : Variant) (old new : SavedContext) (bytes : List ℕ) → Type 0

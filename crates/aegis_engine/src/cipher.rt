@@ -7,6 +7,7 @@ ghost use Rattle.std.specs.Prelude.{◌≡◌, ⊤, ◌≤◌, ◌⊎◌, ◌++�
 ghost use Rattle.aegis_base.specs.Lane.{IsTagLength};
 ghost use Rattle.std.specs.Borrow.{Array, LendsIfOk, sem, u8};
 ghost use Rattle.aegis_base.specs.Chunks.{OpensChunks, accepted, erased, joined};
+ghost use Rattle.aegis_base.specs.Limits.{erased_byte};
 ghost use Rattle.aegis_base.specs.Message.{Opens, ciphertext, seal, keystream, tag, xor_keystream};
 ghost use Rattle.aegis_base.specs.Context.{Stands};
 ghost use Rattle.aegis_engine.specs.Beginning.{beginning, held, filled};
@@ -137,7 +138,7 @@ impl<S: LaneState, U, const KEY_BYTES: usize, const TAG_BYTES: usize> Cipher<
         ensures only { (m : List ℕ)
             → Opens S.VARIANT TAG_BYTES self.key self.nonce ad.now mc.old tag.now m
             → mc.new ≡ m }
-        ensures erased { OnErr result (mc.new ≡ replicate (length mc.old) ERASED) }
+        ensures erased { OnErr result (mc.new ≡ replicate (length mc.old) erased_byte) }
         ensures error { IfErr result (λ e. e ≡ Error.InvalidTag) }
     {
         self.decrypt_in_place_with(mc, tag, &[ad])
@@ -175,7 +176,7 @@ impl<S: LaneState, U, const KEY_BYTES: usize, const TAG_BYTES: usize> Cipher<
         ensures only { (m : List ℕ)
             → Opens S.VARIANT TAG_BYTES self.key self.nonce (joined ad.now) mc.old tag.now m
             → mc.new ≡ m }
-        ensures erased { OnErr result (mc.new ≡ replicate (length mc.old) ERASED) }
+        ensures erased { OnErr result (mc.new ≡ replicate (length mc.old) erased_byte) }
         ensures error { IfErr result (λ e. e ≡ Error.InvalidTag) }
     {
         let mut context = Context::<S>::begin_with(&self.key, &self.nonce, ad);
