@@ -1,6 +1,6 @@
 -- Relations between the code's values and the definitions.
 use Rattle.std.specs.Prelude.{◌≡◌, ℕ, ◌+◌, ◌-◌, Bool, ◌≤◌, ◌⊎◌, List, ◌++◌, drop, length, map, replicate, take, Result, Ok, Err}
-use Rattle.aegis_engine.specs.declared.cipher.TheConstants.{ERASED}
+use Rattle.aegis_base.specs.Limits.{erased_byte}
 use Rattle.std.specs.declared.vec.Vec.{Vec}
 use Rattle.aegis.specs.declared.record.error.RecordError.{RecordError}
 use Rattle.aegis.specs.declared.record.error.RecordError.TheVariants as errors
@@ -63,7 +63,7 @@ with_message bytes m = take 5 bytes ++ (m ++ drop (5 + length m) bytes)
 
 -- the buffer with the ciphertext of its first record erased
 abbrev pub with_erased : List ℕ → List ℕ
-with_erased bytes = with_message bytes (replicate (length_at (drop 1 bytes)) ERASED)
+with_erased bytes = with_message bytes (replicate (length_at (drop 1 bytes)) erased_byte)
 
 -- the result is this message, which is in the buffer, whether it is the last, and the bytes after its record
 abbrev pub OpensInPlaceTo : Bool → List ℕ → List ℕ → List ℕ → Result OpenedInPlace RecordError → Type 0

@@ -8,7 +8,6 @@ use Rattle.aegis.specs.RecordStream.{IsFaultAt, AreWithin, Sealing, first_positi
 use Rattle.aegis.specs.Records.{AreRecords, sealed, IsFault}
 use Rattle.aegis.specs.Calls.{message_of, rest_of, with_erased, with_message}
 use Rattle.aegis.specs.declared.record.error.RecordError.TheVariants as errors
-use Rattle.aegis.specs.declared.record.length.TheConstants.{RECORD_BYTES}
 use Rattle.aegis.specs.declared.record.record_opener.in_place.OpenedInPlace.{OpenedInPlace}
 
 -- What is known between two records: the key, prefix and context of the stream, the position of the next record, and whether the
@@ -113,7 +112,7 @@ pub record RefusesNext (old new : Progress) (bytes : List ℕ) (e : RecordError)
 pub record WritesMessage (bytes bytes' : List ℕ) (opened : OpenedInPlace) : Type 0 where
   pub message_len : length (message_of opened bytes') ≡ opened.message_len
   pub written : bytes' ≡ with_message bytes (message_of opened bytes')
-  pub size : RECORD_BYTES + opened.message_len + length (rest_of opened bytes') ≡ length bytes
+  pub size : 37 + opened.message_len + length (rest_of opened bytes') ≡ length bytes
 
 -- The call returns this error, and leaves the progress as it was. It erases the ciphertext if no message is sealed to it, and
 -- otherwise changes no byte.

@@ -5,7 +5,6 @@ use Rattle.std.specs.Prelude.{◌≡◌, ℕ, ◌+◌, ◌*◌, ◌<◌, ◌≤�
 use Rattle.std.specs.Int.{w32, to_le_bytes, from_le_bytes}
 use Rattle.std.specs.List.{AllByRecursion}
 use Rattle.aegis.specs.declared.record.position.RecordPosition.{RecordPosition}
-use Rattle.aegis.specs.declared.record.version.TheConstants.{MAX_FIRST_MESSAGE_BYTES, MAX_MESSAGE_BYTES}
 use Rattle.aegis.specs.declared.record.version.Version.{Version}
 use Rattle.aegis.specs.declared.record.version.Version.TheVariants.{First, Second}
 use Rattle.aegis.specs.declared.record.error.RecordError.{RecordError}
@@ -18,8 +17,8 @@ header Second = codes "AGR2"
 
 -- how many bytes a record's message may have
 abbrev pub limit : Version → ℕ
-limit First = MAX_FIRST_MESSAGE_BYTES
-limit Second = MAX_MESSAGE_BYTES
+limit First = 65_536
+limit Second = 16_777_216
 
 -- the ciphertext and the tag of a record, from its position, its flag and its message
 abbrev pub Sealing : Type 0

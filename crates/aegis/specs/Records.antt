@@ -9,6 +9,10 @@ use Rattle.aegis.specs.declared.record.version.Version.{Version}
 use Rattle.aegis.specs.declared.record.version.Version.TheVariants.{First, Second}
 use Rattle.aegis.specs.RecordStream.{IsFaultOf, IsRecordStream, Sealing, header}
 
+-- how many bytes the context of a stream may have
+abbrev pub max_context_bytes : ℕ
+max_context_bytes = 65_535
+
 -- the nonce of record k: the stream's prefix and the number, least byte first
 abbrev pub nonce : List ℕ → ℕ → List ℕ
 nonce prefix k = prefix ++ to_le_bytes w64 k

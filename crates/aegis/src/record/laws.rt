@@ -2,11 +2,22 @@
 //! other contracts cite.
 
 ghost use Rattle.std.specs.Prelude.{◌≡◌, ◌<◌, ◌++◌, List, length, ℕ};
-ghost use Rattle.aegis.specs.RecordStream.{IsOneFault, IsOneRecordStream, records_length};
+ghost use Rattle.aegis.specs.RecordStream.{IsOneFault, IsOneRecordStream, limit, records_length};
 ghost use Rattle.aegis.specs.Progress.{AreRecordsOfSomeVersion, Begun, Progress, start_of};
-ghost use Rattle.aegis.specs.Records.{AreRecords, IsFault, sealed};
+ghost use Rattle.aegis.specs.Records.{AreRecords, IsFault, max_context_bytes, sealed};
 ghost use Rattle.aegis.specs.declared.record.error.RecordError.TheVariants.{Trailing};
 ghost use Rattle.aegis.specs.declared.record.version.Version.{Version};
+
+use crate::record::record_cipher::MAX_CONTEXT_BYTES;
+use crate::record::version::{MAX_MESSAGE_BYTES, Version};
+
+/// The limits are those of the definitions.
+pub fn record_limits()
+    ensures context { MAX_CONTEXT_BYTES ≡ max_context_bytes }
+    ensures message { MAX_MESSAGE_BYTES ≡ limit Version.Second }
+{
+    let (_context, _message) = (MAX_CONTEXT_BYTES, MAX_MESSAGE_BYTES);
+}
 
 /// Under one key, prefix and context two lists of messages, or two versions, never have the same stream, and no stream
 /// is a proper prefix of another.

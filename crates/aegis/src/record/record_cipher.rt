@@ -3,7 +3,7 @@
 ghost use Rattle.std.specs.Prelude.{◌≡◌, ◌≢◌, ◌-◌, ◌≤◌, ◌⊎◌, ◌+◌, ◌++◌, ◌∷◌, [], IfErr, IfOk, List, OnErr, OnOk, drop, length, replicate, take, ℕ};
 ghost use Rattle.std.specs.Int.{to_le_bytes, w32, w64};
 ghost use Rattle.aegis_base.specs.Chunks.{joined};
-ghost use Rattle.aegis_engine.specs.declared.cipher.TheConstants.{ERASED};
+ghost use Rattle.aegis_base.specs.Limits.{erased_byte};
 ghost use Rattle.aegis.specs.Calls.{sealing_of};
 ghost use Rattle.aegis.specs.Records.{associated_data, before_bytes, nonce};
 ghost use Rattle.aegis.specs.RecordStream.{header, limit};
@@ -202,7 +202,7 @@ impl RecordCipher<'_> {
             (λ e. ((m : List ℕ) → sealing_of self.now position flag m ≢ sealed.old)
             × (e ≡ RecordError.Damaged position.number)) }
         ensures erased { OnErr result (take (length sealed.old - 32) sealed.new
-            ≡ replicate (length sealed.old - 32) ERASED) }
+            ≡ replicate (length sealed.old - 32) erased_byte) }
         ensures tag { drop (length sealed.old - 32) sealed.new
             ≡ drop (length sealed.old - 32) sealed.old }
     {
