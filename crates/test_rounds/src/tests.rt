@@ -106,6 +106,64 @@ fn plain_round(block: [u8; 16], key: [u8; 16]) -> [u8; 16] {
     end
 }
 
+// For each byte, the products of its substitute with the first column of the matrix of MixColumns (FIPS 197, section
+// 5.1.3). The products with the others are the same, rotated.
+fn first_columns() -> [[u8; 4]; 256] {
+    let mut columns = [[0; 4]; 256];
+    for a in 0..=255u8 {
+        let s = plain_substitute(a);
+        columns[a as usize] = [product(2, s), s, s, product(3, s)];
+    }
+    columns
+}
+
+// A round by this table.
+fn round_by_columns(columns: &[[u8; 4]; 256], block: [u8; 16], key: [u8; 16]) -> [u8; 16] {
+    let mut end = key;
+    for c in 0..4usize {
+        for i in 0..4usize {
+            let column = columns[block[4 * ((c + i) % 4) + i] as usize];
+            for r in 0..4usize {
+                end[4 * c + r] ^= column[(r + 4 - i) % 4];
+            }
+        }
+    }
+    end
+}
+
+// Asserts that both rounds of a block are those by the table.
+fn check_by_columns<R: Abort>(rt: &R, columns: &[[u8; 4]; 256], start: u128) {
+    let (_, key, _) = KNOWN[1];
+    let end = u128::from_be_bytes(round_by_columns(
+        columns,
+        start.to_be_bytes(),
+        key.to_be_bytes(),
+    ));
+    assert_block(rt, block(start).round(block(key)), end);
+    assert_block(
+        rt,
+        block(start).sub_bytes_row().complete_row(block(key)),
+        end,
+    );
+}
+
+// Blocks of sixteen equal bytes, and the rotations of one whose bytes differ.
+#[test]
+fn rounds_beside_a_table(rt: HostRuntime) {
+    let columns = first_columns();
+    assert_bytes(&rt, &columns[0x00], &[0xc6, 0x63, 0x63, 0xa5], &0x00);
+    assert_bytes(&rt, &columns[0x01], &[0xf8, 0x7c, 0x7c, 0x84], &0x01);
+    assert_bytes(&rt, &columns[0x53], &[0xc1, 0xed, 0xed, 0x2c], &0x53);
+    assert_bytes(&rt, &columns[0xff], &[0x2c, 0x16, 0x16, 0x3a], &0xff);
+    for byte in 0..=255u8 {
+        check_by_columns(&rt, &columns, u128::from_be_bytes([byte; 16]));
+    }
+    let (start, _, _) = KNOWN[1];
+    for turn in 0..16u32 {
+        check_by_columns(&rt, &columns, start.rotate_left(8 * turn));
+    }
+}
+
 #[test]
 fn inverses_and_substitutes_of_known_bytes(rt: HostRuntime) {
     let known = [0x53, 0x01, 0x00, 0xca];
