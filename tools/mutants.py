@@ -6,15 +6,18 @@ the name of the mutant that it stands beside.
 mutants.py check: each can be applied, since every text that it replaces stands in its file once, has a name of its own in its
 crate, and names the clauses that refuse it. The function that it changes, or one that calls that, has a clause of each name.
 mutants.py try [CRATE..]: the prover refuses each mutant that is listed, and proves each control.
+mutants.py try-tenth: it refuses each mutant of the day's tenth.
 """
 
 import functools
+import os
 import pathlib
 import re
 import shutil
 import subprocess
 import sys
 import tempfile
+import time
 from typing import NamedTuple
 
 CRATES = pathlib.Path("crates")
@@ -224,43 +227,62 @@ def check():
 
 # ---- The prover
 
+# What rt prints of an edit that shows nothing of a contract: it does not compile, or a proof only misses a name.
+SHOWS_NOTHING = re.compile(r"BAD EDIT|refused, as it must be \(only")
 
-def tried(folder, file, crates):
-    """Tries what the lists in files of this name have for these crates, or for all, as the mutants of a copy of the crates.
-    Returns rt's status, and the edits of which it does not say that they are not refused."""
+
+def tried(folder, edits):
+    """Tries edits as the mutants of a copy of the crates, by `rt ci`, which takes the proofs of crates that an earlier run
+    on this machine proved. Returns whether each is refused, and the edits of which rt does not say that they are not."""
     for path in folder.glob("crates/*/must-fail"):
         shutil.rmtree(path)
-    edits = [edit for edit in listed(file) if not crates or edit.crate.name in crates]
     if not edits:
-        return 0, []
+        return True, []
     for edit in edits:
         path = folder / edit.crate / "must-fail" / f"{edit.name}.edit"
         path.parent.mkdir(exist_ok=True)
         path.write_text("\n".join(edit.lines) + "\n", "utf-8")
-    command = ["rt", "must-fail", *sorted({edit.crate.name for edit in edits})]
+    shows_nothing, command = False, ["rt", "ci", *sorted({edit.crate.name for edit in edits})]
     with subprocess.Popen(command, cwd=folder, stdout=subprocess.PIPE, stderr=subprocess.STDOUT, text=True) as process:
         for line in process.stdout:
             print(line, end="", flush=True)
+            shows_nothing = shows_nothing or SHOWS_NOTHING.search(line)
             edits = [edit for edit in edits if f"{edit.crate.name}/{edit.name}.edit: NOT REFUSED" not in line]
-    return process.returncode, edits
+    return process.returncode == 0 and not shows_nothing, edits
 
 
-def try_listed(crates):
-    """Returns whether the prover fails to refuse a mutant that is listed, or to prove a control: not to refuse it."""
-    if unknown := [crate for crate in crates if not (CRATES / crate).is_dir()]:
-        sys.exit(f"there is no crate {unknown[0]}")
+def try_these(mutants, controls):
+    """Returns whether the prover fails to refuse a mutant, or to prove a control: not to refuse it."""
     with tempfile.TemporaryDirectory() as folder:
         copy = pathlib.Path(folder)
         shutil.copytree(CRATES, copy / CRATES, ignore=shutil.ignore_patterns("out", "must-fail"))
         shutil.copy("crates.txt", copy)
         shutil.copy("HANDLES", copy)
-        status, _ = tried(copy, "mutants.txt", crates)
-        return bool(status or tried(copy, "controls.txt", crates)[1])
+        are_refused, _ = tried(copy, mutants)
+        return not are_refused or bool(tried(copy, controls)[1])
+
+
+def try_listed(crates):
+    """Tries the mutants and the controls that are listed for these crates, or for all."""
+    if unknown := [crate for crate in crates if not (CRATES / crate).is_dir()]:
+        sys.exit(f"there is no crate {unknown[0]}")
+    lists = ([edit for edit in listed(file) if not crates or edit.crate.name in crates] for file in ("mutants.txt", "controls.txt"))
+    return try_these(*lists)
+
+
+def try_tenth():
+    """Tries a tenth of the mutants that are listed, of few crates, since those of a crate share its proof: another one on each
+    day of the year, or that of the day MUTANTS_DAY."""
+    day, mutants = int(os.environ.get("MUTANTS_DAY") or time.strftime("%j")), list(listed("mutants.txt"))
+    start, stop = (len(mutants) * tenth // 10 for tenth in (day % 10, day % 10 + 1))
+    print(f"day {day} of the year: mutants {start + 1} to {stop} of {len(mutants)}", flush=True)
+    return try_these(mutants[start:stop], [])
 
 
 if __name__ == "__main__":
-    if sys.argv[1] == "try":
-        sys.exit(try_listed(sys.argv[2:]))
+    command, *words = sys.argv[1:]
+    if command in ("try", "try-tenth"):
+        sys.exit(try_tenth() if command == "try-tenth" else try_listed(words))
     faults = list(check())
     print("\n".join(faults), end="\n" if faults else "")
     sys.exit(bool(faults))
