@@ -5,7 +5,7 @@ use Rattle.aegis_base.specs.Variant.{Variant}
 use Rattle.aegis_storage.specs.Bytes.{overwritten, part_at}
 use Rattle.aegis_storage.specs.Disk.{Crashed, Disk, IsPossible, Writes, WritesAll, certain, after_writes}
 use Rattle.aegis_storage.specs.Journal.{IsAtRest, IsNoForgery, IsOneOf, KeepsBeginning, RecoversUnlessForged, RecoversKnown, RestsAtEither}
-use Rattle.aegis_storage.proofs.Disks.{readable_certain}
+use Rattle.aegis_storage.proofs.Disks.{certain_leaves, has_left, readable_certain}
 use Rattle.aegis_storage.proofs.Journals.{crashed_beginning, empty_beginning, crashed_recovers, empty_is_none, rest_recovers}
 use Rattle.aegis_pages.specs.Changed.{Plaintexts, contents_at}
 use Rattle.aegis_pages.specs.Commits.{IsHonest, IsOfCommit, RecoversContentsUnlessForged, RestsAtContents, head_bytes, head_of, journal_key}
@@ -152,6 +152,24 @@ crashed_contents variant key before now storage journal disk journal_disk ys js 
     (λ file writes _ recovers. crashed_recovers (journal_key variant key) [] file writes disk journal_disk ys js (rw (← is, ← journal_is) recovers) p q)
     (λ beginning keeps. crashed_beginning beginning journal_disk js (rw (← journal_is) keeps) q) before now batch tt
 
+pub crashed_committed : (variant : Variant) (key contents : List ℕ) (disk journal_disk : Disk) (ys js : List ℕ) → AreCommitted variant key (Some disk) (Some journal_disk) contents
+    → Crashed disk ys → Crashed journal_disk js → AreCommitted variant key (Some (certain ys)) (Some (certain js)) contents
+unfolding AreCommitted IsCommitted
+crashed_committed variant key contents disk journal_disk ys js has p q = (
+  has.0,
+  has.1,
+  has.2,
+  has.3,
+  record {
+    bytes = has.4.bytes;
+    rests = record { storage_is = left disk ys has.4.bytes has.4.rests.storage_is p; journal_is = left journal_disk js [] has.4.rests.journal_is q };
+    is = has.4.is;
+  },
+)
+  where
+    left : (disk : Disk) (ys xs : List ℕ) → Some disk ≡ Some (certain xs) → Crashed disk ys → Some (certain ys) ≡ Some (certain xs)
+    left disk ys xs is crashed = ap (λ zs. Some (certain zs)) (has_left (λ zs. zs ≡ xs) (Some disk) disk ys (certain_leaves (Some disk) xs is) refl crashed)
+
 -- ---- a file that was opened
 
 pub opens_at_one : (layout : Layout) (counter len : ℕ) (changes : Plaintexts) (a : Option (List ℕ)) (disk journal : Option Disk) (before now : List ℕ) → IsLaneCount layout.variant.lanes
@@ -194,3 +212,11 @@ discarded layout counter stored len changes none bytes disk journal broken befor
     subst (IsKnown (Has layout counter stored stored none broken before)) (sym known)
     (subst (λ (b : Bool). Has layout counter stored stored none b before committed.bytes) (sym held.sound)
     (holds_has layout counter stored none before committed.bytes count empty held.header (record { layout = layout; counter = counter; variant_is = refl; key_is = refl; is = committed.is })))
+
+-- the same after changes in memory, whatever they are
+pub discarded_since : (file old : OpenFile) (none : Plaintexts) (before now : List ℕ) → IsLaneCount old.layout.variant.lanes → IsPossible old.bytes old.disk
+    → ((k : ℕ) → contents_at none k ≡ None) → IsStoredAs file old → HasCommitted file before → HasContents file now → IsKnown (Has old.layout old.counter old.stored old.stored none old.broken before) old.bytes
+unfolding HasContents IsCommitted
+discarded_since file old none before now count possible empty s committed has =
+    discarded old.layout old.counter old.stored file.len file.changes none old.bytes old.disk old.journal old.broken before now count possible empty
+    (stored_committed file old before s committed) (rw (s.layout, s.counter, s.stored, s.broken, s.bytes) has)

@@ -8,7 +8,7 @@ ghost use Rattle.aegis_pages.specs.Commitments.{HasOneCommitment, commitment};
 ghost use Rattle.aegis_pages.specs.Layouts.{IsHeader};
 ghost use Rattle.aegis_storage.specs.Disk.{Crashed, Disk, certain};
 ghost use Rattle.aegis_pages.specs.Commits.{HasHonestHeader, IsHonest, IsLeftByCommit, RecoversContentsUnlessForged, RecoversOneUnlessForged};
-ghost use Rattle.aegis_pages.specs.OpenFile.{HasCommitted, HasContents, IsStoredAs, IsUnchanged, OpenFile};
+ghost use Rattle.aegis_pages.specs.OpenFile.{AreCommitted, HasCommitted, HasContents, IsStoredAs, IsUnchanged, OpenFile};
 
 /// A part that was written is what is read at its place.
 #[tactic(auto, using(aegis_storage::proofs::Overwriting::put_part))]
@@ -71,6 +71,16 @@ pub fn recovers_after_a_crash()
         → Crashed disk ys → Crashed journal_disk js
         → RecoversContentsUnlessForged variant key before now (Some (certain ys))
         (Some (certain js)) }
+{}
+
+/// Committed contents are committed after a crash.
+#[tactic(auto, using(crate::proofs::RecoveryFacts::crashed_committed))]
+pub fn committed_after_a_crash()
+    ensures { (variant : Variant) (key contents : List ℕ) (disk journal_disk : Disk)
+        (ys js : List ℕ)
+        → AreCommitted variant key (Some disk) (Some journal_disk) contents
+        → Crashed disk ys → Crashed journal_disk js
+        → AreCommitted variant key (Some (certain ys)) (Some (certain js)) contents }
 {}
 
 /// What is recovered, and is no forgery, is left by a commit: so [`crate::Pages::open`] accepts it.

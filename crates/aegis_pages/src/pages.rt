@@ -9,7 +9,7 @@ ghost use Rattle.aegis_pages.specs.Commitments.{commitment};
 ghost use Rattle.aegis_pages.specs.Commits.{Fits, IsHonest, IsLeftByCommit, RecoversContentsUnlessForged, RecoversOneUnlessForged};
 ghost use Rattle.aegis_pages.specs.Errors.{IsBeginError, IsBeginRefusal, IsCommitRefusal, IsCommitmentRefusal, IsCreateRefusal, IsOpenRefusal, IsReadRefusal, IsVerifyRefusal, IsWriteRefusal};
 ghost use Rattle.aegis_pages.specs.Layouts.{IsHeader, IsPageSize};
-ghost use Rattle.aegis_pages.specs.OpenFile.{AreCommitted, HasCommitted, HasContents, IsCertain, IsKnown, IsStoredAs, IsUnchanged, OpensAtOne, Reads};
+ghost use Rattle.aegis_pages.specs.OpenFile.{AreCommitted, HasCommitted, HasContents, IsCertain, IsKnown, IsStoredAs, IsUnchanged, OpenFile, OpensAtOne, Reads};
 ghost use Rattle.aegis_pages.specs.SealedPages.{IsFileOf, KeepsOthers};
 
 use crate::changes::{ChangedPages, PageContents, empty_contents};
@@ -444,14 +444,14 @@ impl<
         }
     }
 
-    /// Forgets all changes since the last commit. The contents are those that were committed, and the next commit
-    /// begins there.
+    /// Forgets all changes since the last commit. The contents are those that were committed, also after a change that
+    /// returned an error, and the next commit begins there.
     pub fn discard(&mut self)
         ensures stored { IsStoredAs self.old self.new }
         ensures len { self.new.len ≡ self.old.stored }
         ensures none { (k : ℕ) → contents_at self.new.changes k ≡ None }
-        ensures contents { (before now : List ℕ) → HasCommitted self.old before
-            → HasContents self.old now → HasContents self.new before }
+        ensures contents { (file : OpenFile) (before now : List ℕ) → IsStoredAs file self.old
+            → HasCommitted file before → HasContents file now → HasContents self.new before }
         ensures committed { (before : List ℕ) → HasCommitted self.old before
             → HasCommitted self.new before }
     {
