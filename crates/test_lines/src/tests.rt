@@ -32,6 +32,38 @@ fn answers_a_thousand_lines(rt: HostRuntime) -> Result<(), Fail> {
     Ok(())
 }
 
+// Inputs whose ends of lines, or bytes, are unusual, their answers and the status.
+#[test]
+fn unusual_inputs(rt: HostRuntime) -> Result<(), Fail> {
+    let cases: [(&[u8], &str, &str, u8); 6] = [
+        (b"", "", "", 0),
+        (b"\n", "", "error command\n", 1),
+        (b"\xff\n", "", "error command\n", 1),
+        (b"", ROUND, ROUND_ANSWER, 0),
+        (
+            b"\xff\n",
+            ROUND,
+            "error command\n63636363636363636363636363636363\n",
+            1,
+        ),
+        (
+            b"\n\n",
+            " ",
+            "error command\nerror command\nerror command\n",
+            1,
+        ),
+    ];
+    for (start, end, expected, wanted) in cases {
+        let mut input = Vec::from_slice(rt.alloc(), start)?;
+        input.extend_from_slice(end.as_bytes())?;
+        let mut output = Vec::new(rt.alloc());
+        let status = run(rt.alloc(), &mut input.as_slice(), &mut output);
+        assert_eq!(rt; status, wanted, "{start:?} {end}");
+        assert_eq!(rt; output.as_slice(), expected.as_bytes(), "{start:?} {end}");
+    }
+    Ok(())
+}
+
 // Three lines and their answers.
 fn three_lines<R: AllocGlobal>(rt: &R) -> Result<(String, String), Fail> {
     let input = format!(in rt.alloc(); "{ROUND}\n{STREAM}\r\n{ROUND}\n")?;
