@@ -1,12 +1,12 @@
 //! A table of rows of 64 bytes in a sealed file.
 
-ghost use Rattle.std.specs.Prelude.{◌≡◌, ◌+◌, ◌*◌, ◌<◌, ◌≤◌, IfOk, IfSome, List, OnOk, length, ℕ};
+ghost use Rattle.std.specs.Prelude.{◌≡◌, ◌+◌, ◌*◌, ◌<◌, ◌≤◌, IfOk, IfSome, List, OnErr, OnOk, length, ℕ};
 ghost use Rattle.aegis_storage.specs.Bytes.{overwritten, part_at};
 ghost use Rattle.aegis_base.specs.Variant.{Aegis256};
 ghost use Rattle.aegis_pages.specs.Commits.{IsHonest, RecoversContentsUnlessForged, RecoversOneUnlessForged};
 ghost use Rattle.aegis_pages.specs.OpenFile.{HasCommitted, HasContents, IsStoredAs, OpensAtOne};
 
-use aegis_pages::laws::others_are_kept;
+use aegis_pages::laws::{others_are_kept, stored_is_committed};
 use aegis_pages::{Nonces, PagesError, SealedPages};
 use aegis_storage::Storage;
 use std::alloc::Allocator;
@@ -63,6 +63,29 @@ pub fn written_and_read_row<
     write_row(pages, k, row)?;
     pages.read_at(ROW_BYTES * j, out)?;
     Ok(())
+}
+
+/// Writes row `k`. If it cannot be written, all changes since the last commit are forgotten: the table is that of the
+/// last commit, and ready for more rows.
+pub fn write_row_or_forget<
+    S: Storage + Drop,
+    J: Storage + Drop,
+    N: Nonces + Drop,
+    A: Allocator + Copy,
+>(pages: &mut SealedPages<S, J, N, A>, k: u64, row: &[u8; 64]) -> Result<(), PagesError>
+    requires { k < MAX_ROWS }
+    ensures forgotten { OnErr result ((before now : List ℕ) → HasCommitted pages.old before
+        → HasContents pages.old now
+        → HasContents pages.new before × HasCommitted pages.new before) }
+{
+    stored_is_committed();
+    match write_row(pages, k, row) {
+        Ok(()) => Ok(()),
+        Err(error) => {
+            pages.discard();
+            Err(error)
+        }
+    }
 }
 
 /// Commits the rows that were written. Whatever it returns, a crash leaves a storage and a journal from which
