@@ -1,6 +1,8 @@
 //! The tests, and the comparison that they share.
 
 mod calls;
+mod each_variant;
+mod examples;
 mod memory;
 mod records;
 mod texts;

@@ -1,11 +1,7 @@
-//! Functions of ciphers and MACs, each called once, and what no contract states: where a slice that is returned lies,
-//! and the destination after the drop of a decryptor.
-
-ghost use Rattle.std.specs.Prelude.{◌≤◌};
+//! Functions of ciphers and MACs, each called once, and what no contract states: where a slice that is returned lies.
 
 use crate::tests::assert_bytes;
 use aegis::aegis128l::Aegis128LMac;
-use aegis::aegis128x4::Aegis128X4;
 use aegis::aegis256::Aegis256;
 use aegis::aegis256x2::Aegis256X2;
 use aegis::aegis256x4::Aegis256X4Mac;
@@ -110,43 +106,6 @@ fn lengths_of_messages(rt: HostRuntime) -> Result<(), Fail> {
     Ok(())
 }
 
-// A chunk, and what `update` returns for it.
-type Step<'a> = (&'a [u8], Result<(), Error>);
-
-fn assert_answer<R: Abort>(rt: &R, answer: Result<(), Error>, expected: Result<(), Error>) {
-    assert_eq!(rt; answer, expected);
-}
-
-// Takes these steps, and is then dropped.
-fn take_steps<R: Abort>(rt: &R, steps: &[Step], destination: &mut [u8]) {
-    let cipher = Aegis128X4::<32>::new(&SHORT_KEY, &SHORT_NONCE);
-    let mut decryptor = cipher.decryptor(&ASSOCIATED_DATA, destination);
-    for (chunk, expected) in steps {
-        assert_answer(rt, decryptor.update(chunk), *expected);
-    }
-}
-
-// After these steps and a drop, so many zeros are at the start of the destination, and the rest is unchanged.
-fn check_drop<R: Abort>(rt: &R, steps: &[Step], zeros: usize)
-    requires { zeros ≤ 136 }
-{
-    let mut destination = [0xaa; 136];
-    take_steps(rt, steps, &mut destination);
-    let mut expected = [0xaa; 136];
-    expected[..zeros].fill(0);
-    assert_bytes(rt, &destination, &expected, &zeros);
-}
-
-// Before any chunk, after a refused one alone, after a byte and a refused chunk, and after more than a rate block.
-#[test]
-fn dropped_decryptors(rt: HostRuntime) {
-    let bytes = [0x11; 137];
-    check_drop(&rt, &[], 0);
-    check_drop(&rt, &[(&bytes, TOO_SMALL)], 0);
-    check_drop(&rt, &[(&bytes[..1], Ok(())), (&bytes, TOO_SMALL)], 1);
-    check_drop(&rt, &[(&bytes[..130], Ok(()))], 130);
-}
-
 #[test]
 fn each_variant_in_place(rt: HostRuntime) -> Result<(), Fail> {
     for variant in VARIANTS {
@@ -221,6 +180,14 @@ fn macs(rt: HostRuntime) -> Result<(), Fail> {
 
 #[test]
 fn counted_at_the_limit(rt: HostRuntime) {
-    assert_eq!(rt; counted(MAX_AEAD_BYTES - 1, 1), Ok(MAX_AEAD_BYTES));
-    assert_eq!(rt; counted(MAX_AEAD_BYTES, 1), Err(Error::MessageTooLong));
+    assert_eq!(rt; counted(0, 0), Ok(0));
+    assert_eq!(rt;
+        counted(2_305_843_009_213_693_950, 1),
+        Ok(2_305_843_009_213_693_951)
+    );
+    assert_eq!(rt;
+        counted(2_305_843_009_213_693_951, 1),
+        Err(Error::MessageTooLong)
+    );
+    assert_eq!(rt; counted(1, u64::MAX), Err(Error::MessageTooLong));
 }

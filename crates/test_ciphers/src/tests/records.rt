@@ -1,4 +1,5 @@
-//! Record streams: each function once, a stored stream of the first version, no memory, and long messages.
+//! Record streams: each function once, a stored stream of the first version, faults of both versions, no memory, and
+//! long messages.
 
 ghost use Rattle.std.specs.Prelude.{◌≤◌, length};
 
@@ -73,6 +74,42 @@ fn comes_back<A: Allocator + Copy>(alloc: A) -> Result<bool, RecordError> {
     let is_opened = opens_to_messages(alloc, &PREFIX, &FIRST)?;
     let new = migrated(alloc, &FIRST)?;
     Ok(opens_to_messages(alloc, &NEW_PREFIX, &new)? && is_opened)
+}
+
+// How a stream of the two messages is refused if it is cut off, or if a byte of its tags is another, and under a prefix
+// of which the first or the last byte is another.
+fn check_faults<R: Abort + AllocGlobal>(rt: &R, stream: &[u8; 81]) {
+    for count in 0..81usize {
+        let error = if count < 4 {
+            RecordError::Header
+        } else {
+            RecordError::Truncated
+        };
+        let refused = opens_to_messages(rt.alloc(), &PREFIX, &stream[..count]).err();
+        assert_error(rt, refused, error, &count);
+    }
+    for (first, last, number) in [(1, 0, 0), (0, 1, 1), (1, 1, 0)] {
+        let mut damaged = *stream;
+        damaged[9] ^= first;
+        damaged[80] ^= last;
+        let refused = opens_to_messages(rt.alloc(), &PREFIX, &damaged).err();
+        assert_error(rt, refused, RecordError::Damaged(number), &(first, last));
+    }
+    for at in [0, 23usize] {
+        let mut prefix = PREFIX;
+        prefix[at] ^= 1;
+        let refused = opens_to_messages(rt.alloc(), &prefix, stream).err();
+        assert_error(rt, refused, RecordError::Damaged(0), &at);
+    }
+}
+
+// Of both versions. Other faults are lines of `test_agreement`.
+#[test]
+fn streams_that_are_cut_off_or_changed(rt: HostRuntime) -> Result<(), Fail> {
+    check_faults(&rt, &FIRST);
+    let second = seal_records(rt.alloc(), &KEY, &PREFIX, &CONTEXT, &MESSAGES)?;
+    check_faults(&rt, &<[u8; 81]>::try_from(second.as_slice())?);
+    Ok(())
 }
 
 // With each request refused in turn, the first ones of which are needed.
