@@ -17,7 +17,7 @@ use test_storage::disk::TestDisk;
 /// A file on disks that keep what was written apart until it is synced.
 pub type DiskPages<N> = SealedPages<TestDisk, TestDisk, N, Global>;
 
-/// Makes an empty file on two disks, the second of which is empty. A call of a disk may fail, after any number of calls.
+/// Makes an empty file on two disks, the second of which is empty. Any call of a disk may fail.
 pub fn created<N: Nonces + Drop>(
     alloc: Global,
     disks: (TestDisk, TestDisk),

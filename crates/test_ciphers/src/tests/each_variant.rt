@@ -15,7 +15,6 @@ use aegis::{Decryptor, Encryptor, Error};
 use aegis_base::LaneState;
 use aegis_variants::{AnyCipher, VARIANTS, with_cipher, with_mac};
 use std::process::Abort;
-use std::test::Fail;
 use test_tools::calls::{ASSOCIATED_DATA, MESSAGE, keyed};
 
 const TOO_SMALL: Result<(), Error> = Err(Error::OutputBufferTooSmall);
