@@ -8,7 +8,6 @@ ghost use Rattle.aegis_pages.specs.OpenFile.{AreCommitted, HasCommitted, HasCont
 use crate::pages::reopened_file::saved;
 use aegis_pages::laws::{contents_has_its_length, whole_is_written};
 use aegis_pages::{DEFAULT_PAGE_BYTES, Nonces, PagesError, SealedPages};
-use aegis_storage::Storage;
 use std::alloc::Allocator;
 
 /// A file in memory.
@@ -32,8 +31,8 @@ pub fn created<N: Nonces + Drop, A: Allocator + Copy>(
 }
 
 /// Gives an empty file contents, in memory.
-pub fn written<S: Storage + Drop, J: Storage + Drop, N: Nonces + Drop, A: Allocator + Copy>(
-    pages: &mut SealedPages<S, J, N, A>,
+pub fn written<N: Nonces + Drop, A: Allocator + Copy>(
+    pages: &mut MemoryPages<N, A>,
     contents: &[u8],
 ) -> Result<(), PagesError>
     ensures stored { IsStoredAs pages.old pages.new }
