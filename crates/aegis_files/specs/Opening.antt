@@ -2,7 +2,7 @@
 use Rattle.std.specs.Prelude.{◌≡◌, ◌≢◌, ℕ, ◌+◌, ◌<◌, ◌⊎◌, List, [], ◌++◌, Option, drop, length, take}
 use Rattle.std.specs.Io.KnownBytes.{Appends}
 use Rattle.std.specs.List.{concat}
-use Rattle.aegis_base.specs.declared.error.TheConstants.{MAX_AEAD_BYTES}
+use Rattle.aegis_base.specs.Limits.{max_aead_bytes}
 use Rattle.aegis_files.specs.declared.error.FileError.{FileError}
 use Rattle.aegis_files.specs.declared.error.FileError.TheVariants.{Stream, TooLong}
 use Rattle.aegis_files.specs.Range.{AreFrom}
@@ -34,7 +34,7 @@ pub record AreInFile (key context file : List ℕ) (messages : List (List ℕ)) 
 pub record RefusesFile (key context file : List ℕ) (e : FileError) : Type 0 where
   pub refused : (why : RecordError) → e ≡ Stream why → (why ≡ errors.OutOfMemory) ⊎ IsFileFault key context file why
   pub accepted : (contents : List ℕ) → IsSealedFile key context contents file → (why : RecordError) → e ≡ Stream why → why ≡ errors.OutOfMemory
-  pub too_long : e ≡ TooLong → 24 + MAX_AEAD_BYTES < length file
+  pub too_long : e ≡ TooLong → 24 + max_aead_bytes < length file
 
 -- Opening the file failed. Whatever the file is, what was written are the messages of records at its beginning, or a beginning of
 -- them if a write failed, or nothing.

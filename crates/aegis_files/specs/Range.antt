@@ -2,7 +2,7 @@
 use Rattle.std.specs.Prelude.{◌≡◌, ℕ, ◌+◌, ◌<◌, ◌≤◌, ◌⊎◌, true, List, [], ◌∷◌, ◌++◌, Option, Some, drop, length, take}
 use Rattle.std.specs.Io.KnownBytes.{Appends}
 use Rattle.std.specs.List.{concat}
-use Rattle.aegis_base.specs.declared.error.TheConstants.{MAX_AEAD_BYTES}
+use Rattle.aegis_base.specs.Limits.{max_aead_bytes}
 use Rattle.aegis_files.specs.declared.error.FileError.{FileError}
 use Rattle.aegis_files.specs.declared.error.FileError.TheVariants.{Stream, TooLong}
 use Rattle.aegis_files.specs.declared.range.OpenedRange.{OpenedRange}
@@ -45,7 +45,7 @@ pub record RefusesFrom (key prefix context : List ℕ) (position : RecordPositio
   pub refused : (why : RecordError) → e ≡ Stream why → (why ≡ errors.OutOfMemory) ⊎ IsFaultFrom key prefix context position stream why
   pub accepted : (following : List (List ℕ)) (contents : List ℕ) → AreContentsFrom key prefix context position following contents stream
       → (why : RecordError) → e ≡ Stream why → why ≡ errors.OutOfMemory
-  pub too_long : e ≡ TooLong → MAX_AEAD_BYTES < start_at position + length stream
+  pub too_long : e ≡ TooLong → max_aead_bytes < start_at position + length stream
 
 -- ---- opening a range
 
@@ -66,7 +66,7 @@ pub record OpensRange (key prefix context : List ℕ) (range : ContentsRange) (o
   pub written : Appends old new (part_of range messages)
   pub count : opened.length ≡ length (part_of range messages)
   pub ended : opened.end ≡ position_after range.position messages
-  pub fits : start_at opened.end ≤ MAX_AEAD_BYTES
+  pub fits : start_at opened.end ≤ max_aead_bytes
   -- it ends with the last record, so that the contents end there, or with as many bytes as asked for
   pub whole : (opened.is_last ≡ true) ⊎ ((opened.length ≡ range.length) × (range.skip ≤ length (concat messages)))
   -- no other records were read, and each but the first is needed: without the last of them there are fewer bytes
@@ -84,7 +84,7 @@ pub record StopsRange (key prefix context : List ℕ) (range : ContentsRange) (s
   pub flag : ℕ
   pub rest : List ℕ
   pub records : AreFrom key prefix context range.position flag messages rest stream
-  pub fits : start_at (position_after range.position messages) ≤ MAX_AEAD_BYTES
+  pub fits : start_at (position_after range.position messages) ≤ max_aead_bytes
   pub begun : List ℕ
   pub written : Appends old new begun
   pub of_messages : (more : List ℕ) × (part_of range messages ≡ begun ++ more) × ((more ≡ []) ⊎ IsWriteError e)

@@ -3,8 +3,7 @@ use Rattle.std.specs.Prelude.{◌≡◌, ℕ, ◌+◌, ◌-◌, ◌*◌, ◌/◌
 use Rattle.std.specs.Io.KnownBytes.{Appends, Consumes, IsAtEnd}
 use Rattle.std.specs.List.{concat}
 use Rattle.std.specs.declared.io.Error.{Error}
-use Rattle.aegis_base.specs.declared.error.TheConstants.{MAX_AEAD_BYTES}
-use Rattle.aegis_files.specs.declared.seal.TheConstants.{PIECE_BYTES}
+use Rattle.aegis_base.specs.Limits.{max_aead_bytes}
 use Rattle.aegis_files.specs.declared.error.FileError.{FileError}
 use Rattle.aegis_files.specs.declared.error.FileError.TheVariants.{Read, Write, TooLong, Stream}
 use Rattle.aegis.specs.declared.record.version.Version.TheVariants.{Second}
@@ -28,13 +27,17 @@ pub record IsSealedFile (key context contents file : List ℕ) : Type 0 where
   pub long : length prefix ≡ 24
   pub is : IsFileOf key prefix context contents file
 
+-- how many bytes of contents a record has; the last record is empty, and the one before it may be shorter
+abbrev pub piece_bytes : ℕ
+piece_bytes = 65_536
+
 -- a piece of contents, as sealing cuts it
 abbrev pub IsPiece : List ℕ → Type 0
-IsPiece m = length m ≤ PIECE_BYTES
+IsPiece m = length m ≤ piece_bytes
 
 -- how many pieces contents of n bytes have
 abbrev pub pieces_in : ℕ → ℕ
-pieces_in n = (n + (PIECE_BYTES - 1)) / PIECE_BYTES
+pieces_in n = (n + (piece_bytes - 1)) / piece_bytes
 
 -- how many bytes the record stream of such contents have: a header, a record for each piece, and the last record, which
 -- is empty
@@ -62,7 +65,7 @@ pub record WritesFileBeginning (key prefix context contents : List ℕ) (old new
   -- So only then can it be a file that opens.
   pub opens : (other : List ℕ) → IsSealedFile key context other begun → (other ≡ contents) × IsWriteError e
   -- The contents are too long only if their stream would pass the limit.
-  pub too_long : e ≡ TooLong → MAX_AEAD_BYTES < stream_length (length contents)
+  pub too_long : e ≡ TooLong → max_aead_bytes < stream_length (length contents)
 
 -- ---- reading a file: the bytes that were read, and why the next record is not
 
@@ -93,7 +96,7 @@ pub data FailsNext (p : Progress) (left : Option (List ℕ)) (e : FileError) : T
   NoMemory : e ≡ Stream errors.OutOfMemory → FailsNext p left e
   Refused : (why : RecordError) → e ≡ Stream why → IfSome left (λ rest. (ms : List (List ℕ)) (before : List ℕ) → Begun p ms before
       → IsFault p.key p.prefix p.context (before ++ rest) why) → FailsNext p left e
-  Long : e ≡ TooLong → IfSome left (λ rest. MAX_AEAD_BYTES < start_of p + length rest) → FailsNext p left e
+  Long : e ≡ TooLong → IfSome left (λ rest. max_aead_bytes < start_of p + length rest) → FailsNext p left e
 
 -- a read failed, or some bytes were left
 abbrev pub LeavesSome : Option (List ℕ) → FileError → Type 0
