@@ -9,10 +9,10 @@ use Rattle.std.specs.Str.Parse.{digits_value}
 use Rattle.hex.specs.Hex.{decode_of, encode_lower, is_hex_digit}
 use Rattle.aegis_variants.specs.declared.variant.AnyVariant.{AnyVariant}
 use Rattle.aegis_variants.specs.declared.variant.AnyVariant.TheVariants as variants
+use Rattle.aegis.specs.Records.{max_context_bytes}
 use Rattle.aegis.specs.RecordStream.{limit, records_length}
-use Rattle.aegis.specs.declared.record.record_cipher.TheConstants.{MAX_CONTEXT_BYTES}
 use Rattle.aegis.specs.declared.record.version.Version.TheVariants.{Second}
-use Rattle.aegis_base.specs.declared.error.TheConstants.{MAX_AEAD_BYTES}
+use Rattle.aegis_base.specs.Limits.{max_aead_bytes}
 use Rattle.aegis_lines.specs.declared.fault.Fault.{Fault}
 use Rattle.aegis_lines.specs.declared.fault.Fault.TheVariants as faults
 use Rattle.aegis_lines.specs.declared.table.Command.{Command}
@@ -96,13 +96,13 @@ command_named field =
 -- the fields after each command
 abbrev pub kinds_of : Command → List Kind
 kinds_of commands.Round = kinds.Exactly 16 ∷ kinds.Exactly 16 ∷ []
-kinds_of commands.Seal = kinds.Variant ∷ kinds.TagLength ∷ kinds.Key ∷ kinds.Key ∷ kinds.AtMost MAX_AEAD_BYTES ∷ kinds.Pieces ∷ []
-kinds_of commands.Open = kinds.Variant ∷ kinds.TagLength ∷ kinds.Key ∷ kinds.Key ∷ kinds.AtMost MAX_AEAD_BYTES ∷ kinds.Pieces ∷ kinds.Tag ∷ []
+kinds_of commands.Seal = kinds.Variant ∷ kinds.TagLength ∷ kinds.Key ∷ kinds.Key ∷ kinds.AtMost max_aead_bytes ∷ kinds.Pieces ∷ []
+kinds_of commands.Open = kinds.Variant ∷ kinds.TagLength ∷ kinds.Key ∷ kinds.Key ∷ kinds.AtMost max_aead_bytes ∷ kinds.Pieces ∷ kinds.Tag ∷ []
 kinds_of commands.Stream = kinds.Variant ∷ kinds.Key ∷ kinds.Key ∷ kinds.Count ∷ []
 kinds_of commands.Xor = kinds.Variant ∷ kinds.Key ∷ kinds.Key ∷ kinds.Bytes ∷ []
 kinds_of commands.Mac = kinds.Variant ∷ kinds.TagLength ∷ kinds.Key ∷ kinds.Key ∷ kinds.Pieces ∷ []
-kinds_of commands.SealRecords = kinds.Exactly 32 ∷ kinds.Exactly 24 ∷ kinds.AtMost MAX_CONTEXT_BYTES ∷ kinds.Messages ∷ []
-kinds_of commands.OpenRecords = kinds.Exactly 32 ∷ kinds.Exactly 24 ∷ kinds.AtMost MAX_CONTEXT_BYTES ∷ kinds.Bytes ∷ []
+kinds_of commands.SealRecords = kinds.Exactly 32 ∷ kinds.Exactly 24 ∷ kinds.AtMost max_context_bytes ∷ kinds.Messages ∷ []
+kinds_of commands.OpenRecords = kinds.Exactly 32 ∷ kinds.Exactly 24 ∷ kinds.AtMost max_context_bytes ∷ kinds.Bytes ∷ []
 
 -- a fault, unless this holds
 abbrev pub unless : Bool → Fault → Option Fault
@@ -118,7 +118,7 @@ are_messages ms = list_all (λ m. leb (length m) (limit Second)) ms
 
 -- whether they have a record stream: neither one of them nor the whole is too long
 abbrev pub have_records : List (List ℕ) → Bool
-have_records ms = are_messages ms && leb (records_length ms) MAX_AEAD_BYTES
+have_records ms = are_messages ms && leb (records_length ms) max_aead_bytes
 
 -- the first fault of a field, in a line whose keys have `key` bytes, and whose tag has `tag`
 abbrev pub fault_of : (key tag : ℕ) → Kind → List ℕ → Option Fault
@@ -130,7 +130,7 @@ fault_of key tag (kinds.Exactly size) field = bytes_fault (is_bytes field) (leng
 fault_of key tag kinds.Key field = bytes_fault (is_bytes field) (length (bytes_of field) == key)
 fault_of key tag kinds.Tag field = bytes_fault (is_bytes field) (length (bytes_of field) == tag)
 fault_of key tag (kinds.AtMost size) field = bytes_fault (is_bytes field) (leb (length (bytes_of field)) size)
-fault_of key tag kinds.Pieces field = bytes_fault (list_all is_bytes (pieces_of field)) (leb (length (joined_of field)) MAX_AEAD_BYTES)
+fault_of key tag kinds.Pieces field = bytes_fault (list_all is_bytes (pieces_of field)) (leb (length (joined_of field)) max_aead_bytes)
 fault_of key tag kinds.Messages field = bytes_fault (list_all is_bytes (pieces_of field)) (have_records (messages_of field))
 
 -- the place of a fault in the order in which they are looked for
