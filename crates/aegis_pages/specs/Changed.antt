@@ -7,8 +7,7 @@ use Rattle.std.specs.List.{AllByRecursion}
 use Rattle.aegis_pages.specs.declared.changes.PageContents.{PageContents}
 use Rattle.aegis_pages.specs.SealedPages.{Changes}
 use Rattle.aegis_storage.specs.Disk.{Writes}
-use Rattle.aegis_pages.specs.declared.layout.TheConstants.{MAX_CONTENTS_BYTES}
-use Rattle.aegis_pages.specs.Layouts.{Layout, OpensAt, sealed_bytes, page_place}
+use Rattle.aegis_pages.specs.Layouts.{Layout, OpensAt, max_contents_bytes, sealed_bytes, page_place}
 
 -- contents, each with the number of its page
 abbrev pub Plaintexts : Type 0
@@ -29,7 +28,7 @@ plaintexts_in plaintexts = map (λ e. (e.0, e.1.bytes.items)) plaintexts.entries
 
 -- each plaintext has `size` bytes, and its page begins no later than contents may end
 abbrev pub FitPages : ℕ → Plaintexts → Type 0
-FitPages size plaintexts = AllByRecursion (λ e. (length e.1 ≡ size) × (e.0 * size ≤ MAX_CONTENTS_BYTES)) plaintexts
+FitPages size plaintexts = AllByRecursion (λ e. (length e.1 ≡ size) × (e.0 * size ≤ max_contents_bytes)) plaintexts
 
 -- no page has two plaintexts
 abbrev pub HaveOnePlaintext : Plaintexts → Type 0

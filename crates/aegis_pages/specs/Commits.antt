@@ -6,15 +6,14 @@ use Rattle.aegis_storage.specs.Bytes.{part_at}
 use Rattle.aegis_storage.specs.Disk.{Disk, Writes, after_writes}
 use Rattle.aegis_storage.specs.Journal.{AreWithin, IsAtRest, IsJournal, IsNoForgery, IsOneOf, KeepsBeginning, RecoversUnlessForged, entries}
 use Rattle.aegis_pages.specs.declared.header.FileHeader.{FileHeader}
-use Rattle.aegis_pages.specs.declared.layout.TheConstants.{JOURNAL_MAGIC}
-use Rattle.aegis_pages.specs.Layouts.{HasNoHeader, IsHeader, Layout, journal_beginning, layout_of}
+use Rattle.aegis_pages.specs.Layouts.{HasNoHeader, IsHeader, Layout, journal_beginning, journal_magic, layout_of}
 use Rattle.aegis_pages.specs.SealedPages.{IsFileOf, IsFileUnder}
 use Rattle.aegis_pages.specs.OpenFile.{OpenFile}
 
 -- the key of the journals of files under a key: a MAC of 16 bytes of the journals' magic number, under the nonce of all
 -- bytes 255
 abbrev pub journal_key : Variant → List ℕ → List ℕ
-journal_key variant key = mac variant 16 key (replicate (key_length variant.family) 255) JOURNAL_MAGIC
+journal_key variant key = mac variant 16 key (replicate (key_length variant.family) 255) journal_magic
 
 -- how many bytes a header has
 abbrev pub head_bytes : Variant → ℕ

@@ -3,10 +3,9 @@ use Rattle.std.specs.Prelude.{◌≡◌, ℕ, ◌-◌, ◌*◌, ◌^◌, ◌<◌
 use Rattle.aegis_base.specs.Variant.{Variant}
 use Rattle.aegis_pages.specs.declared.error.PagesError.{PagesError}
 use Rattle.aegis_pages.specs.declared.error.PagesError.TheVariants.{Read, Write, Nonce, Header, Damaged, TooLong, OutOfMemory, PageSize, Commitment, Journal, Broken}
-use Rattle.aegis_pages.specs.declared.layout.TheConstants.{MAX_CONTENTS_BYTES}
 use Rattle.aegis_pages.specs.Commitments.{commitment}
 use Rattle.aegis_pages.specs.Commits.{Fits, IsNotWhole}
-use Rattle.aegis_pages.specs.Layouts.{HasNoHeader, IsPageSize, Layout}
+use Rattle.aegis_pages.specs.Layouts.{HasNoHeader, IsPageSize, Layout, max_contents_bytes}
 use Rattle.aegis_pages.specs.SealedPages.{Changes, Shows}
 
 -- reading failed
@@ -56,7 +55,7 @@ IsReadRefusal broken layout changes end bytes e = IsCommitmentRefusal broken e
 -- Reading failed, a page that begins before byte `len` of the contents shows nothing, the contents would end past their limit, no memory was left, or a commit had failed.
 abbrev pub IsWriteRefusal : Bool → Layout → Changes → (len end : ℕ) → Option (List ℕ) → PagesError → Type 0
 IsWriteRefusal broken layout changes len end bytes (Damaged k) = (k * layout.page_bytes < len) × ShowsNothing layout changes k bytes
-IsWriteRefusal broken layout changes len end bytes TooLong = MAX_CONTENTS_BYTES < end
+IsWriteRefusal broken layout changes len end bytes TooLong = max_contents_bytes < end
 IsWriteRefusal broken layout changes len end bytes OutOfMemory = ⊤
 IsWriteRefusal broken layout changes len end bytes e = IsCommitmentRefusal broken e
 

@@ -1,9 +1,8 @@
 -- How a file of sealed pages is laid out: its header, and sealed pages, their associated data and their places.
-use Rattle.std.specs.Prelude.{ℕ, ◌+◌, ◌-◌, ◌*◌, ◌≤◌, List, ◌∷◌, ◌++◌, drop, length, replicate, take, ◌≡◌, ◌^◌, ◌<◌, IfSome, Option}
+use Rattle.std.specs.Prelude.{ℕ, ◌+◌, ◌-◌, ◌*◌, ◌≤◌, List, ◌∷◌, ◌++◌, codes, drop, length, replicate, take, ◌≡◌, ◌^◌, ◌<◌, IfSome, Option}
 use Rattle.std.specs.Int.{to_le_bytes, w32, w64}
 use Rattle.aegis_base.specs.Variant.{Variant, key_length}
 use Rattle.aegis_base.specs.Message.{Opens}
-use Rattle.aegis_pages.specs.declared.layout.TheConstants.{JOURNAL_MAGIC, MAGIC, MAX_PAGE_BYTES, MIN_PAGE_BYTES, HEADER_NUMBER, MAX_CONTENTS_BYTES}
 use Rattle.aegis_storage.specs.Bytes.{part_at}
 use Rattle.aegis_pages.specs.declared.header.FileHeader.{FileHeader}
 
@@ -14,8 +13,19 @@ pub record Layout : Type 0 where
   pub page_bytes : ℕ
   pub id : List ℕ
 
+-- the least and the greatest page size, in bytes of contents
+abbrev pub min_page_bytes : ℕ
+min_page_bytes = 256
+
+abbrev pub max_page_bytes : ℕ
+max_page_bytes = 65_536
+
 abbrev pub IsPageSize : ℕ → Type 0
-IsPageSize n = (MIN_PAGE_BYTES ≤ n) × (n ≤ MAX_PAGE_BYTES)
+IsPageSize n = (min_page_bytes ≤ n) × (n ≤ max_page_bytes)
+
+-- how many bytes contents may have
+abbrev pub max_contents_bytes : ℕ
+max_contents_bytes = 2 ^ 60
 
 -- the byte that stands for a variant: the length of its keys, and its number of lanes
 abbrev pub variant_byte : Variant → ℕ
@@ -23,15 +33,22 @@ variant_byte variant = key_length variant.family + variant.lanes
 
 -- a magic number, variant, page size and id
 abbrev pub named : List ℕ → Layout → List ℕ
-named magic layout = magic ++ (variant_byte layout.variant ∷ (to_le_bytes w32 layout.page_bytes ++ layout.id))
+named magic_number layout = magic_number ++ (variant_byte layout.variant ∷ (to_le_bytes w32 layout.page_bytes ++ layout.id))
+
+-- the magic number of files, and that of journals
+abbrev pub magic : List ℕ
+magic = codes "AGP1"
+
+abbrev pub journal_magic : List ℕ
+journal_magic = codes "AGJ1"
 
 -- the first 33 bytes of a header, and of the associated data of each sealed page
 unfoldable pub plaintext_header : Layout → List ℕ
-plaintext_header layout = named MAGIC layout
+plaintext_header layout = named magic layout
 
 -- the beginning of the file's journals, which has another magic number, and fills a sector with zeros
 unfoldable pub journal_beginning : Layout → List ℕ
-journal_beginning layout = named JOURNAL_MAGIC layout ++ replicate 479 0
+journal_beginning layout = named journal_magic layout ++ replicate 479 0
 
 -- the associated data of the sealed page of a number
 unfoldable pub associated_data : Layout → ℕ → List ℕ
@@ -63,6 +80,10 @@ page_at layout file k = part_at file (page_place layout k) (sealed_bytes layout 
 
 -- ---- the header of a file
 
+-- the number that stands for a header where a page has its own; no page has it
+abbrev pub header_number : ℕ
+header_number = 2 ^ 64 - 1
+
 -- the plaintext of a header's encrypted part: how many commits were made before, and the length of the file's contents
 abbrev pub header_plaintext : ℕ → ℕ → List ℕ
 header_plaintext counter len = to_le_bytes w64 counter ++ to_le_bytes w64 len
@@ -70,10 +91,10 @@ header_plaintext counter len = to_le_bytes w64 counter ++ to_le_bytes w64 len
 -- the header block begins with a header of this layout, counter and length
 pub record IsHeaderBlock (layout : Layout) (counter len : ℕ) (header_block : List ℕ) : Type 0 where
   pub size : IsPageSize layout.page_bytes
-  pub within : len ≤ MAX_CONTENTS_BYTES
+  pub within : len ≤ max_contents_bytes
   pub countable : counter < 2 ^ 64
   pub plaintext : take 33 header_block ≡ plaintext_header layout
-  pub opens : OpensAt layout HEADER_NUMBER (part_at header_block 33 (sealed_bytes layout 16)) (header_plaintext counter len)
+  pub opens : OpensAt layout header_number (part_at header_block 33 (sealed_bytes layout 16)) (header_plaintext counter len)
 
 -- the file begins with a header block that has this header
 pub record IsHeader (layout : Layout) (counter len : ℕ) (file : List ℕ) : Type 0 where
@@ -87,7 +108,7 @@ layout_of variant key header = record { variant = variant; key = key; page_bytes
 -- A file begins with this header, if its bytes can be read.
 pub record HasHeader (variant : Variant) (key : List ℕ) (header : FileHeader) (file : Option (List ℕ)) : Type 0 where
   pub page_bytes : IsPageSize header.page_bytes
-  pub len : header.len ≤ MAX_CONTENTS_BYTES
+  pub len : header.len ≤ max_contents_bytes
   pub is : IfSome file (IsHeader (layout_of variant key header) header.counter header.len)
 
 -- the file has no header that was sealed with the variant and under the key

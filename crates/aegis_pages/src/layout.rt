@@ -47,10 +47,10 @@ pub const HEADER_NUMBER: u64 = 18_446_744_073_709_551_615;
 pub const PAGES_PLACE: u64 = 4_096;
 
 /// The first bytes of a file.
-pub const MAGIC: [u8; 4] = [65, 71, 80, 49];
+pub const MAGIC: [u8; 4] = *b"AGP1";
 
 /// The first bytes of a journal.
-pub const JOURNAL_MAGIC: [u8; 4] = [65, 71, 74, 49];
+pub const JOURNAL_MAGIC: [u8; 4] = *b"AGJ1";
 
 // How many zeros follow the name of the file in the beginning of a journal.
 const PADDING_BYTES: usize = BEGINNING_BYTES - PLAINTEXT_HEADER_BYTES;

@@ -1,13 +1,19 @@
 -- The journal of writes, and what recovery makes of a storage by it.
-use Rattle.std.specs.Prelude.{◌≡◌, ℕ, ◌+◌, ◌≤◌, ◌⊎◌, List, [], ◌++◌, IfSome, Option, Some, length, take}
+use Rattle.std.specs.Prelude.{◌≡◌, ℕ, ◌+◌, ◌-◌, ◌^◌, ◌≤◌, ◌⊎◌, List, [], ◌++◌, IfSome, Option, Some, length, take}
 use Rattle.std.specs.Int.{to_le_bytes, w64}
 use Rattle.std.specs.List.{AllByRecursion, flat_map}
 use Rattle.aegis_base.specs.Mac.{mac}
 use Rattle.aegis_base.specs.Variant.{Aegis128L}
-use Rattle.aegis_storage.specs.declared.journal.TheConstants.{MAX_JOURNAL_BYTES}
-use Rattle.aegis_storage.specs.declared.store.TheConstants.{MAX_STORAGE_BYTES}
 use Rattle.aegis_storage.specs.Bytes.{IfKnown}
 use Rattle.aegis_storage.specs.Disk.{CrashLeaves, Crashed, Disk, Writes, certain, after_writes}
+
+-- the last byte of a storage lies below this place, as in a file of Linux
+abbrev pub max_storage_bytes : ℕ
+max_storage_bytes = 2 ^ 63 - 1
+
+-- how many bytes a journal has at most
+abbrev pub max_journal_bytes : ℕ
+max_journal_bytes = 2 ^ 60
 
 -- a write in a journal: its place, its length and its bytes
 abbrev pub entry : ℕ × List ℕ → List ℕ
@@ -19,7 +25,7 @@ entries writes = flat_map entry writes
 
 -- no write passes the last place of a storage
 abbrev pub AreWithin : Writes → Type 0
-AreWithin writes = AllByRecursion (λ write. write.0 + length write.1 ≤ MAX_STORAGE_BYTES) writes
+AreWithin writes = AllByRecursion (λ write. write.0 + length write.1 ≤ max_storage_bytes) writes
 
 -- what the MAC of a journal is of: the context behind its length, and the writes
 abbrev pub authenticated : (context content : List ℕ) → List ℕ
@@ -35,7 +41,7 @@ pub record IsFramed (key context content bytes : List ℕ) : Type 0 where
   pub nonce : List ℕ
   pub beginning_size : length beginning ≡ 512
   pub nonce_size : length nonce ≡ 16
-  pub fits : length bytes ≤ MAX_JOURNAL_BYTES
+  pub fits : length bytes ≤ max_journal_bytes
   pub are : bytes ≡ framed key beginning nonce context content
 
 -- The bytes are a journal of these writes.
