@@ -1,7 +1,7 @@
 //! The exports on the journal of a file of sealed pages. `variant` is a number of `aegis_c_calls::variant`. The caller
 //! reads and writes the file and the journal, and syncs them.
 //!
-//! Each returns a code of `aegis_c_calls::refusal`. After a code but `DONE`, nothing has changed.
+//! Each returns a code of `aegis_c_calls::refusal`. After a code other than 0, nothing has changed.
 
 ghost use Rattle.aegis_c_calls.specs.Codes.{variant_of};
 ghost use Rattle.aegis_c_calls.specs.JournalCalls.{JournalBegin, JournalCheck, JournalEntry, JournalFinal, JournalNext};

@@ -60,7 +60,7 @@ pub extern "C" fn hunkravy_proved_encrypt_in_place(
     )
 }
 
-/// Decrypts `mc` in place. If `mac` is not its tag, each byte of `mc` is 0xaa, and the code is `INVALID_TAG`.
+/// Decrypts `mc` in place. If `mac` is not its tag, each byte of `mc` is 0xaa, and the code is -1.
 #[unsafe(no_mangle)]
 pub extern "C" fn hunkravy_proved_decrypt_in_place(
     variant: u32,
@@ -127,7 +127,7 @@ pub extern "C" fn hunkravy_proved_mac(
     )
 }
 
-/// Returns `DONE` if `mac` is the MAC of `input`, and `INVALID_TAG` if it is not.
+/// Returns 0 if `mac` is the MAC of `input`, and -1 if it is not.
 #[unsafe(no_mangle)]
 pub extern "C" fn hunkravy_proved_mac_verify(
     variant: u32,

@@ -32,8 +32,8 @@ pub extern "C" fn hunkravy_proved_page_seal(
     )
 }
 
-/// Opens a page in place. If no contents are sealed to it at this number, each of its bytes is 0xaa, and the result is
-/// `INVALID_TAG`.
+/// Opens a page in place. If no contents are sealed to it at this number, each of its bytes is 0xaa, and the result
+/// is -1.
 #[unsafe(no_mangle)]
 pub extern "C" fn hunkravy_proved_page_open(
     variant: u32,

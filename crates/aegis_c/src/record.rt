@@ -90,7 +90,7 @@ pub extern "C" fn hunkravy_proved_record_len(
 }
 
 /// Opens the next record in place. `is_last` becomes 1 for the last record, which ends the stream, and 0 for another.
-/// If no message is sealed to the record, each of its bytes is 0xaa, and the result is `INVALID_TAG`.
+/// If no message is sealed to the record, each of its bytes is 0xaa, and the result is -1.
 #[unsafe(no_mangle)]
 pub extern "C" fn hunkravy_proved_record_open(
     st: &mut RecordState,

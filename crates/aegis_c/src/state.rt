@@ -132,8 +132,8 @@ pub extern "C" fn hunkravy_proved_state_decrypt_check(st: &mut State, c: &[u8]) 
     by_variant!(st.variant, Refusal::WrongState, chunk checked(st, c))
 }
 
-/// Returns `DONE` if `mac` is the tag of the message. If it is not, each byte of `m` is 0xaa, and the code is
-/// `INVALID_TAG`. Both end the state.
+/// Returns 0 if `mac` is the tag of the message. If it is not, each byte of `m` is 0xaa, and the code is -1. Both end
+/// the state.
 #[unsafe(no_mangle)]
 pub extern "C" fn hunkravy_proved_state_decrypt_final(
     st: &mut State,
@@ -183,7 +183,7 @@ pub extern "C" fn hunkravy_proved_mac_final(st: &State, mac: &mut [u8]) -> i32
     by_variant!(st.variant, Refusal::WrongState, calls::mac_final(st, mac))
 }
 
-/// Returns `DONE` if `mac` is the MAC of the input so far, and `INVALID_TAG` if it is not. The state is unchanged.
+/// Returns 0 if `mac` is the MAC of the input so far, and -1 if it is not. The state is unchanged.
 #[unsafe(no_mangle)]
 pub extern "C" fn hunkravy_proved_mac_final_verify(st: &State, mac: &[u8]) -> i32
     ensures { MacFinalVerify (variant_of st.now.variant) st.now mac.now result }

@@ -3,11 +3,10 @@
 -- A record has the name of its call.
 use Rattle.std.specs.Prelude.{ℕ, ℤ, ◌+◌, ◌-◌, ◌*◌, ◌==◌, leb, Option, Some, None, if◌then◌else◌, ◌≡◌, ◌≢◌, List, drop, length, replicate, take}
 use Rattle.aegis_base.specs.Variant.{Variant, key_length}
-use Rattle.aegis_c_calls.specs.Codes.{variant_code, key_bytes_of, the}
-use Rattle.aegis_c_calls.specs.declared.refusal.TheConstants.{DONE, FILE_TOO_LONG, WRONG_KEY_LENGTH, WRONG_PAGE_SIZE, WRONG_VARIANT, INVALID_TAG}
-use Rattle.aegis_pages.specs.declared.layout.TheConstants.{MAX_PAGE_BYTES, MAX_CONTENTS_BYTES, MIN_PAGE_BYTES}
-use Rattle.aegis_engine.specs.declared.cipher.TheConstants.{ERASED}
-use Rattle.aegis_pages.specs.Layouts.{IsHeaderBlock, Layout, OpensAt}
+use Rattle.aegis_base.specs.Limits.{erased_byte}
+use Rattle.aegis_c_calls.specs.Codes.{number_of, success, variant_code, key_bytes_of, the}
+use Rattle.aegis_c_calls.specs.declared.refusal.Refusal.TheVariants.{FileTooLong, InvalidTag, WrongKeyLength, WrongPageSize, WrongVariant}
+use Rattle.aegis_pages.specs.Layouts.{IsHeaderBlock, Layout, OpensAt, max_contents_bytes, max_page_bytes, min_page_bytes}
 use Rattle.aegis_pages.specs.declared.header.FileHeader.{FileHeader}
 use Rattle.aegis_storage.specs.Bytes.{part_at}
 
@@ -16,11 +15,11 @@ use Rattle.aegis_storage.specs.Bytes.{part_at}
 
 -- for a page size of n bytes; `rest` is the code if it is one
 abbrev pub size_code : ℕ → ℤ → ℤ
-size_code n rest = if leb MIN_PAGE_BYTES n then (if leb n MAX_PAGE_BYTES then rest else WRONG_PAGE_SIZE) else WRONG_PAGE_SIZE
+size_code n rest = if leb min_page_bytes n then (if leb n max_page_bytes then rest else number_of WrongPageSize) else number_of WrongPageSize
 
 -- for a place in the contents, or for its length
 abbrev pub contents_code : ℕ → ℤ
-contents_code n = if leb n MAX_CONTENTS_BYTES then DONE else FILE_TOO_LONG
+contents_code n = if leb n max_contents_bytes then success else number_of FileTooLong
 
 -- for the length of a page whose nonce has n bytes, and for its number: it has the nonce and a tag of 32 bytes more than
 -- its contents
@@ -33,8 +32,8 @@ header_code page_bytes len = size_code page_bytes (contents_code len)
 
 -- for a variant, if there is one, and the length of a key; `rest` is the code if it is right
 abbrev pub keyed_code : Option Variant → ℕ → ℤ → ℤ
-keyed_code (Some variant) key rest = if key == key_length variant.family then rest else WRONG_KEY_LENGTH
-keyed_code None key rest = WRONG_VARIANT
+keyed_code (Some variant) key rest = if key == key_length variant.family then rest else number_of WrongKeyLength
+keyed_code None key rest = number_of WrongVariant
 
 -- for a call that seals a page
 abbrev pub page_seal_code : Option Variant → (key nonce bytes number : ℕ) → ℤ
@@ -74,28 +73,28 @@ header_of page_bytes id counter len = record { page_bytes = page_bytes; id = id;
 -- nothing.
 pub record PageSeal (variant : Option Variant) (key id nonce : List ℕ) (number : ℕ) (page page' : List ℕ) (code : ℤ) : Type 0 where
   pub answered : code ≡ page_seal_code variant (length key) (length nonce) (length page) number
-  pub sealed : code ≡ DONE → IsPageOf (the variant) key id number page' (contents_in (the variant) page)
-  pub under : code ≡ DONE → take (key_length (the variant).family) page' ≡ nonce
-  pub kept : code ≢ DONE → page' ≡ page
+  pub sealed : code ≡ success → IsPageOf (the variant) key id number page' (contents_in (the variant) page)
+  pub under : code ≡ success → take (key_length (the variant).family) page' ≡ nonce
+  pub kept : code ≢ success → page' ≡ page
 
 -- The call opens the page in place, and its contents are written over its ciphertext. If no contents are sealed to the
 -- page at this number it erases every byte; and if a length or the number is wrong, it changes nothing.
 pub record PageOpen (variant : Option Variant) (key id : List ℕ) (number : ℕ) (page page' : List ℕ) (code : ℤ) : Type 0 where
-  pub answered : code ≢ INVALID_TAG → code ≡ page_open_code variant (length key) (length page) number
-  pub lengths : code ≡ INVALID_TAG → page_open_code variant (length key) (length page) number ≡ DONE
+  pub answered : code ≢ number_of InvalidTag → code ≡ page_open_code variant (length key) (length page) number
+  pub lengths : code ≡ number_of InvalidTag → page_open_code variant (length key) (length page) number ≡ success
   -- the page opens to these contents, and to no other
-  pub opened : code ≡ DONE → IsPageOf (the variant) key id number page (contents_in (the variant) page')
-  pub one : code ≡ DONE → (m : List ℕ) → IsPageOf (the variant) key id number page m → contents_in (the variant) page' ≡ m
-  pub accepted : (m : List ℕ) → IsPageOf (the variant) key id number page m → code ≢ INVALID_TAG
-  pub erased : code ≡ INVALID_TAG → page' ≡ replicate (length page) ERASED
-  pub kept : code ≢ DONE → code ≢ INVALID_TAG → page' ≡ page
+  pub opened : code ≡ success → IsPageOf (the variant) key id number page (contents_in (the variant) page')
+  pub one : code ≡ success → (m : List ℕ) → IsPageOf (the variant) key id number page m → contents_in (the variant) page' ≡ m
+  pub accepted : (m : List ℕ) → IsPageOf (the variant) key id number page m → code ≢ number_of InvalidTag
+  pub erased : code ≡ number_of InvalidTag → page' ≡ replicate (length page) erased_byte
+  pub kept : code ≢ success → code ≢ number_of InvalidTag → page' ≡ page
 
 -- The call overwrites `header_block` with the block of a header; or it changes nothing.
 pub record PageHeaderSeal (variant : Option Variant) (key id nonce : List ℕ) (page_bytes counter len : ℕ) (header_block header_block' : List ℕ) (code : ℤ) : Type 0 where
   pub answered : code ≡ header_seal_code variant (length key) (length nonce) page_bytes len
-  pub sealed : code ≡ DONE → IsHeaderBlock (file_of (the variant) key id page_bytes) counter len header_block'
-  pub under : code ≡ DONE → part_at header_block' 33 (key_length (the variant).family) ≡ nonce
-  pub kept : code ≢ DONE → header_block' ≡ header_block
+  pub sealed : code ≡ success → IsHeaderBlock (file_of (the variant) key id page_bytes) counter len header_block'
+  pub under : code ≡ success → part_at header_block' 33 (key_length (the variant).family) ≡ nonce
+  pub kept : code ≢ success → header_block' ≡ header_block
 
 -- the header block has this header, which was sealed under the key
 abbrev pub HasHeader : (variant : Variant) (key header_block : List ℕ) (header : FileHeader) → Type 0
@@ -104,10 +103,10 @@ HasHeader variant key header_block header = IsHeaderBlock (file_of variant key h
 -- The call finds the header in `header_block`, if it was sealed under the key, and overwrites `old` with what it names;
 -- or it changes nothing.
 pub record PageHeaderOpen (variant : Option Variant) (key header_block : List ℕ) (old new : FileHeader) (code : ℤ) : Type 0 where
-  pub answered : code ≢ INVALID_TAG → code ≡ keyed_code variant (length key) DONE
-  pub lengths : code ≡ INVALID_TAG → keyed_code variant (length key) DONE ≡ DONE
+  pub answered : code ≢ number_of InvalidTag → code ≡ keyed_code variant (length key) success
+  pub lengths : code ≡ number_of InvalidTag → keyed_code variant (length key) success ≡ success
   -- the header block has this header, and no other
-  pub opened : code ≡ DONE → HasHeader (the variant) key header_block new
-  pub one : code ≡ DONE → (header : FileHeader) → HasHeader (the variant) key header_block header → header ≡ new
-  pub accepted : (header : FileHeader) → HasHeader (the variant) key header_block header → code ≢ INVALID_TAG
-  pub kept : code ≢ DONE → new ≡ old
+  pub opened : code ≡ success → HasHeader (the variant) key header_block new
+  pub one : code ≡ success → (header : FileHeader) → HasHeader (the variant) key header_block header → header ≡ new
+  pub accepted : (header : FileHeader) → HasHeader (the variant) key header_block header → code ≢ number_of InvalidTag
+  pub kept : code ≢ success → new ≡ old

@@ -5,12 +5,11 @@
 ghost use Rattle.std.specs.Prelude.{◌≡◌, ◌≢◌, ◌+◌, ◌≤◌, ◌∷◌, [], ℕ, ℤ, IfErr, IsOk, List, OnOk, Some, length};
 ghost use Rattle.aegis_base.specs.Variant.{Aegis128L, key_length};
 ghost use Rattle.aegis_engine.specs.Saved.{HasTaken};
-ghost use Rattle.aegis_c_calls.specs.Codes.{code_of, number_of};
+ghost use Rattle.aegis_c_calls.specs.Codes.{code_of, number_of, success};
 ghost use Rattle.aegis_storage.specs.Bytes.{part_at};
 ghost use Rattle.aegis_storage.specs.Disk.{Writes};
 ghost use Rattle.aegis_pages.specs.Commits.{journal_key};
 ghost use Rattle.aegis_c_calls.specs.JournalCalls.{HoldsWrites, IsHeaderIn, IsJournaled, IsOwnCommit, IsWhole, JournalBegin, JournalCheck, JournalEntry, JournalFinal, JournalNext, entry_code, followed_by, header_block_of, journal_code};
-ghost use Rattle.aegis_c_calls.specs.declared.refusal.TheConstants.{DONE, WRONG_STATE};
 
 use crate::keys::key_alone;
 use crate::page::check::check_header;
@@ -44,7 +43,7 @@ fn check_journal(st: &State) -> Result<(), Refusal>
     ensures right { OnOk result ((rest : ℤ) → journal_code st.now rest ≡ rest) }
     ensures wrong { IfErr result (λ refusal. (rest : ℤ)
         → journal_code st.now rest ≡ number_of refusal) }
-    ensures refusal { IfErr result (λ refusal. number_of refusal ≡ WRONG_STATE) }
+    ensures refusal { IfErr result (λ refusal. number_of refusal ≡ number_of Refusal.WrongState) }
 {
     if st.context.ad_bytes != 0 {
         return Err(Refusal::WrongState);
@@ -60,9 +59,9 @@ fn check_entry(st: &State, place: u64, bytes: usize) -> Result<(), Refusal>
     ensures input { OnOk result
         (st.now.context.message_bytes + (bytes + ADDED_BYTES) ≤ MAX_JOURNAL_BYTES) }
     ensures within { OnOk result (place + bytes ≤ MAX_STORAGE_BYTES) }
-    ensures right { OnOk result (entry_code st.now place bytes ≡ DONE) }
+    ensures right { OnOk result (entry_code st.now place bytes ≡ success) }
     ensures wrong { IfErr result (λ refusal. entry_code st.now place bytes ≡ number_of refusal) }
-    ensures not_done { IfErr result (λ refusal. number_of refusal ≢ DONE) }
+    ensures not_done { IfErr result (λ refusal. number_of refusal ≢ success) }
 {
     check_journal(st)?;
     let bytes = bytes as u64;

@@ -1,8 +1,7 @@
 //! The lengths that calls are given.
 
 ghost use Rattle.std.specs.Prelude.{◌≡◌, ◌≢◌, ◌≤◌, ℤ, IfErr, IfOk, length};
-ghost use Rattle.aegis_c_calls.specs.Codes.{key_code, message_code, number_of};
-ghost use Rattle.aegis_c_calls.specs.declared.refusal.TheConstants.{DONE, INVALID_TAG, WRONG_KEY_LENGTH};
+ghost use Rattle.aegis_c_calls.specs.Codes.{key_code, message_code, number_of, success};
 
 use crate::refusal::Refusal;
 use aegis_base::MAX_AEAD_BYTES;
@@ -12,7 +11,7 @@ pub fn key_alone<'a, const N: usize>(k: &'a [u8]) -> Result<&'a [u8; N], Refusal
     ensures key { IfOk result (λ key. key.now ≡ k.now) }
     ensures right { IfOk result (λ key. length k.now ≡ N) }
     ensures wrong { IfErr result (λ refusal. (length k.now ≢ N)
-        × (number_of refusal ≡ WRONG_KEY_LENGTH)) }
+        × (number_of refusal ≡ number_of Refusal.WrongKeyLength)) }
 {
     match k.as_array() {
         Some(key) => Ok(key),
@@ -31,8 +30,9 @@ pub fn nonce_and_key<'a, const N: usize>(
         → key_code N (length k.now) (length npub.now) rest ≡ rest) }
     ensures wrong { IfErr result (λ refusal. (rest : ℤ)
         → key_code N (length k.now) (length npub.now) rest ≡ number_of refusal) }
-    ensures not_done { IfErr result (λ refusal. number_of refusal ≢ DONE) }
-    ensures not_invalid { IfErr result (λ refusal. number_of refusal ≢ INVALID_TAG) }
+    ensures not_done { IfErr result (λ refusal. number_of refusal ≢ success) }
+    ensures not_invalid { IfErr result
+        (λ refusal. number_of refusal ≢ number_of Refusal.InvalidTag) }
 {
     let Some(nonce) = npub.as_array() else {
         return Err(Refusal::WrongNonceLength);
@@ -60,8 +60,9 @@ pub fn message_keys<'a, const N: usize>(
     ensures wrong { IfErr result (λ refusal. (rest : ℤ)
         → key_code N (length k.now) (length npub.now) (message_code message ad rest)
         ≡ number_of refusal) }
-    ensures not_done { IfErr result (λ refusal. number_of refusal ≢ DONE) }
-    ensures not_invalid { IfErr result (λ refusal. number_of refusal ≢ INVALID_TAG) }
+    ensures not_done { IfErr result (λ refusal. number_of refusal ≢ success) }
+    ensures not_invalid { IfErr result
+        (λ refusal. number_of refusal ≢ number_of Refusal.InvalidTag) }
 {
     let keys = nonce_and_key(npub, k)?;
     if message as u64 > MAX_AEAD_BYTES {

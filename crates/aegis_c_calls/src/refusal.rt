@@ -39,59 +39,26 @@ pub enum Refusal {
     WrongJournal,
 }
 
-/// The code of a call that has succeeded.
-pub const DONE: i32 = 0;
-
-pub const INVALID_TAG: i32 = -1;
-
-pub const WRONG_NONCE_LENGTH: i32 = -2;
-
-pub const WRONG_KEY_LENGTH: i32 = -3;
-
-pub const MESSAGE_TOO_LONG: i32 = -4;
-
-pub const DATA_TOO_LONG: i32 = -5;
-
-pub const WRONG_TAG_LENGTH: i32 = -6;
-
-pub const WRONG_STATE: i32 = -7;
-
-pub const WRONG_VARIANT: i32 = -8;
-
-pub const CONTEXT_TOO_LONG: i32 = -9;
-
-pub const UNKNOWN_HEADER: i32 = -10;
-
-pub const WRONG_RECORD_LENGTH: i32 = -11;
-
-pub const WRONG_PAGE_SIZE: i32 = -12;
-
-pub const FILE_TOO_LONG: i32 = -13;
-
-pub const WRONG_MESSAGE_LENGTH: i32 = -14;
-
-pub const WRONG_JOURNAL: i32 = -15;
-
 // Returns the code of a refusal.
 fn number(refusal: Refusal) -> i32
     ensures { result ≡ number_of refusal }
 {
     match refusal {
-        Refusal::InvalidTag => INVALID_TAG,
-        Refusal::WrongNonceLength => WRONG_NONCE_LENGTH,
-        Refusal::WrongKeyLength => WRONG_KEY_LENGTH,
-        Refusal::MessageTooLong => MESSAGE_TOO_LONG,
-        Refusal::DataTooLong => DATA_TOO_LONG,
-        Refusal::WrongTagLength => WRONG_TAG_LENGTH,
-        Refusal::WrongState => WRONG_STATE,
-        Refusal::WrongVariant => WRONG_VARIANT,
-        Refusal::ContextTooLong => CONTEXT_TOO_LONG,
-        Refusal::UnknownHeader => UNKNOWN_HEADER,
-        Refusal::WrongRecordLength => WRONG_RECORD_LENGTH,
-        Refusal::WrongPageSize => WRONG_PAGE_SIZE,
-        Refusal::FileTooLong => FILE_TOO_LONG,
-        Refusal::WrongMessageLength => WRONG_MESSAGE_LENGTH,
-        Refusal::WrongJournal => WRONG_JOURNAL,
+        Refusal::InvalidTag => -1,
+        Refusal::WrongNonceLength => -2,
+        Refusal::WrongKeyLength => -3,
+        Refusal::MessageTooLong => -4,
+        Refusal::DataTooLong => -5,
+        Refusal::WrongTagLength => -6,
+        Refusal::WrongState => -7,
+        Refusal::WrongVariant => -8,
+        Refusal::ContextTooLong => -9,
+        Refusal::UnknownHeader => -10,
+        Refusal::WrongRecordLength => -11,
+        Refusal::WrongPageSize => -12,
+        Refusal::FileTooLong => -13,
+        Refusal::WrongMessageLength => -14,
+        Refusal::WrongJournal => -15,
     }
 }
 
@@ -100,7 +67,7 @@ pub fn code(outcome: Result<(), Refusal>) -> i32
     ensures { result ≡ code_of outcome }
 {
     match outcome {
-        Ok(()) => DONE,
+        Ok(()) => 0,
         Err(refusal) => number(refusal),
     }
 }

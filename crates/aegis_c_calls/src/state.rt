@@ -4,8 +4,7 @@
 ghost use Rattle.std.specs.Prelude.{◌≡◌, ◌≢◌, ◌+◌, ◌≤◌, ℤ, IfErr, OnOk};
 ghost use Rattle.aegis_base.specs.Variant.{key_length};
 ghost use Rattle.aegis_c_calls.specs.Calls.{Begins, MacFinal, MacFinalVerify, MacUpdate, StateDecryptCheck, StateDecryptFinal, StateDecryptInPlaceUnverified, StateEncryptFinal, StateEncryptInPlace};
-ghost use Rattle.aegis_c_calls.specs.Codes.{chunk_code, code_of, more_code, number_of, role_code};
-ghost use Rattle.aegis_c_calls.specs.declared.refusal.TheConstants.{DONE, WRONG_STATE};
+ghost use Rattle.aegis_c_calls.specs.Codes.{chunk_code, code_of, more_code, number_of, role_code, success};
 
 use crate::keys::message_keys;
 use crate::refusal::Refusal;
@@ -51,7 +50,7 @@ pub fn check_state(st: &State, begun: u32, role: u32) -> Result<(), Refusal>
     ensures right { OnOk result ((rest : ℤ) → role_code st.now begun role rest ≡ rest) }
     ensures wrong { IfErr result (λ refusal. (rest : ℤ)
         → role_code st.now begun role rest ≡ number_of refusal) }
-    ensures refusal { IfErr result (λ refusal. number_of refusal ≡ WRONG_STATE) }
+    ensures refusal { IfErr result (λ refusal. number_of refusal ≡ number_of Refusal.WrongState) }
 {
     if st.role != begun && st.role != role {
         return Err(Refusal::WrongState);
@@ -70,10 +69,10 @@ pub fn check_state(st: &State, begun: u32, role: u32) -> Result<(), Refusal>
 fn check_chunk(st: &State, begun: u32, role: u32, more: usize) -> Result<(), Refusal>
     ensures associated_data { OnOk result (st.now.context.ad_bytes ≤ MAX_AEAD_BYTES) }
     ensures message { OnOk result (st.now.context.message_bytes + more ≤ MAX_AEAD_BYTES) }
-    ensures right { OnOk result (role_code st.now begun role (more_code st.now more) ≡ DONE) }
+    ensures right { OnOk result (role_code st.now begun role (more_code st.now more) ≡ success) }
     ensures wrong { IfErr result (λ refusal.
         role_code st.now begun role (more_code st.now more) ≡ number_of refusal) }
-    ensures not_done { IfErr result (λ refusal. number_of refusal ≢ DONE) }
+    ensures not_done { IfErr result (λ refusal. number_of refusal ≢ success) }
 {
     check_state(st, begun, role)?;
     if more as u64 > MAX_AEAD_BYTES - st.context.message_bytes {

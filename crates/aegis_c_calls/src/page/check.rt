@@ -2,9 +2,8 @@
 
 ghost use Rattle.std.specs.Prelude.{◌≡◌, ◌≢◌, ◌+◌, ◌-◌, ◌≤◌, IfErr, IfOk, OnOk};
 ghost use Rattle.aegis_pages.specs.Layouts.{IsPageSize};
-ghost use Rattle.aegis_c_calls.specs.Codes.{number_of};
+ghost use Rattle.aegis_c_calls.specs.Codes.{number_of, success};
 ghost use Rattle.aegis_c_calls.specs.PageCalls.{header_code, place_code};
-ghost use Rattle.aegis_c_calls.specs.declared.refusal.TheConstants.{DONE, INVALID_TAG};
 
 use crate::refusal::Refusal;
 use aegis_pages::{MAX_CONTENTS_BYTES, MAX_PAGE_BYTES, MIN_PAGE_BYTES};
@@ -19,10 +18,11 @@ pub fn check_page<const N: usize>(bytes: usize, number: u64) -> Result<u32, Refu
     ensures value { IfOk result (λ n. n ≡ bytes - (N + TAG_BYTES)) }
     ensures long { OnOk result (N + TAG_BYTES ≤ bytes) }
     ensures size { IfOk result (λ n. IsPageSize n) }
-    ensures right { OnOk result (place_code N bytes number ≡ DONE) }
+    ensures right { OnOk result (place_code N bytes number ≡ success) }
     ensures wrong { IfErr result (λ refusal. place_code N bytes number ≡ number_of refusal) }
-    ensures not_done { IfErr result (λ refusal. number_of refusal ≢ DONE) }
-    ensures not_invalid { IfErr result (λ refusal. number_of refusal ≢ INVALID_TAG) }
+    ensures not_done { IfErr result (λ refusal. number_of refusal ≢ success) }
+    ensures not_invalid { IfErr result
+        (λ refusal. number_of refusal ≢ number_of Refusal.InvalidTag) }
 {
     let added_bytes = N + TAG_BYTES;
     if bytes < added_bytes + MIN_PAGE_BYTES as usize
@@ -41,9 +41,9 @@ pub fn check_page<const N: usize>(bytes: usize, number: u64) -> Result<u32, Refu
 pub fn check_header(page_bytes: u32, len: u64) -> Result<(), Refusal>
     ensures size { OnOk result (IsPageSize page_bytes) }
     ensures within { OnOk result (len ≤ MAX_CONTENTS_BYTES) }
-    ensures right { OnOk result (header_code page_bytes len ≡ DONE) }
+    ensures right { OnOk result (header_code page_bytes len ≡ success) }
     ensures wrong { IfErr result (λ refusal. header_code page_bytes len ≡ number_of refusal) }
-    ensures not_done { IfErr result (λ refusal. number_of refusal ≢ DONE) }
+    ensures not_done { IfErr result (λ refusal. number_of refusal ≢ success) }
 {
     if page_bytes < MIN_PAGE_BYTES || page_bytes > MAX_PAGE_BYTES {
         return Err(Refusal::WrongPageSize);

@@ -2,9 +2,8 @@
 
 ghost use Rattle.std.specs.Prelude.{◌≡◌, ◌≢◌, ◌+◌, ◌<◌, ◌≤◌, ℤ, IfErr, IfNone, IfOk, IfSome, OnOk};
 ghost use Rattle.aegis.specs.RecordStream.{start_at};
-ghost use Rattle.aegis_c_calls.specs.Codes.{number_of};
+ghost use Rattle.aegis_c_calls.specs.Codes.{number_of, success};
 ghost use Rattle.aegis_c_calls.specs.RecordCalls.{mark_code, record_code, next_position};
-ghost use Rattle.aegis_c_calls.specs.declared.refusal.TheConstants.{DONE, INVALID_TAG, WRONG_STATE};
 
 use crate::record::state::RecordState;
 use crate::refusal::Refusal;
@@ -39,7 +38,7 @@ pub fn check_state(st: &RecordState, mark: u64) -> Result<u64, Refusal>
     ensures right { IfOk result (λ at. (rest : ℤ) → mark_code st.now mark rest ≡ rest) }
     ensures wrong { IfErr result (λ refusal. (rest : ℤ)
         → mark_code st.now mark rest ≡ number_of refusal) }
-    ensures refusal { IfErr result (λ refusal. number_of refusal ≡ WRONG_STATE) }
+    ensures refusal { IfErr result (λ refusal. number_of refusal ≡ number_of Refusal.WrongState) }
 {
     if st.mark != mark {
         return Err(Refusal::WrongState);
@@ -62,11 +61,12 @@ pub fn check_record(
     ensures room { OnOk result (RECORD_BYTES ≤ bytes) }
     ensures within { OnOk result (bytes ≤ RECORD_BYTES + MAX_MESSAGE_BYTES) }
     ensures fits { OnOk result (start_at (next_position st.now) + bytes ≤ MAX_AEAD_BYTES) }
-    ensures right { OnOk result (record_code st.now mark context bytes ≡ DONE) }
+    ensures right { OnOk result (record_code st.now mark context bytes ≡ success) }
     ensures wrong { IfErr result (λ refusal.
         record_code st.now mark context bytes ≡ number_of refusal) }
-    ensures not_done { IfErr result (λ refusal. number_of refusal ≢ DONE) }
-    ensures not_invalid { IfErr result (λ refusal. number_of refusal ≢ INVALID_TAG) }
+    ensures not_done { IfErr result (λ refusal. number_of refusal ≢ success) }
+    ensures not_invalid { IfErr result
+        (λ refusal. number_of refusal ≢ number_of Refusal.InvalidTag) }
 {
     let start = check_state(st, mark)?;
     if bytes < RECORD_BYTES as usize {

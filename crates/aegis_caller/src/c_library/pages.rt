@@ -3,7 +3,7 @@
 ghost use Rattle.std.specs.Prelude.{◌≡◌, IsOk, OnOk, Some, length};
 ghost use Rattle.aegis_base.specs.Variant.{key_length};
 ghost use Rattle.aegis_c_calls.specs.PageCalls.{contents_in, header_seal_code, page_seal_code};
-ghost use Rattle.aegis_c_calls.specs.declared.refusal.TheConstants.{DONE};
+ghost use Rattle.aegis_c_calls.specs.Codes.{success};
 
 use aegis_base::LaneState;
 use aegis_c_calls::page::{page_header_open, page_header_seal, page_open, page_seal};
@@ -20,7 +20,7 @@ pub fn page_sealed_and_opened<S: LaneState, const N: usize>(
 ) -> Result<(), Refusal>
     requires { N ≡ key_length S.VARIANT.family }
     ensures done { page_seal_code (Some S.VARIANT) (length k.now) (length npub.now)
-        (length page.old) number ≡ DONE → IsOk result }
+        (length page.old) number ≡ success → IsOk result }
     ensures contents { OnOk result
         (contents_in S.VARIANT page.new ≡ contents_in S.VARIANT page.old) }
 {
@@ -38,7 +38,7 @@ pub fn header_sealed_and_opened<S: LaneState, const N: usize>(
 ) -> Result<(), Refusal>
     requires { N ≡ key_length S.VARIANT.family }
     ensures done { header_seal_code (Some S.VARIANT) (length k.now) (length npub.now)
-        header.now.page_bytes header.now.len ≡ DONE → IsOk result }
+        header.now.page_bytes header.now.len ≡ success → IsOk result }
     ensures found { OnOk result (found.new ≡ header.now) }
 {
     let FileHeader {
