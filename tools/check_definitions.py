@@ -1,5 +1,6 @@
 """docs/ARCHITECTURE.md lists every file of definitions that a public contract reaches, and no other, each after those that
-it uses, with its number of lines. README.md has their sums."""
+it uses, with its number of lines. README.md has their sums. No definition takes a number from the code: none imports a
+constant."""
 
 import pathlib
 import re
@@ -29,6 +30,7 @@ CONTRACT = re.compile(
     r"^ *pub (?:extern \"C\" )?fn .*?^(?!.*(?:ensures|requires))[^\n]*\{\}?$|^ *ghost \w+ = \{.*?\};$", re.M | re.S
 )
 IMPORT = re.compile(r"^ *(?:ghost |pub )*use Rattle\.(\w+)\.specs\.(\w+)(?:\.\{([^}]*)\}| as (\w+)|);?$", re.M)
+CONSTANTS = re.compile(r"^ *(?:pub )?use Rattle\.[\w.]+\.specs\.declared\.(?:\w+\.)*TheConstants\b", re.M)
 ROW = re.compile(r"^\|[^|]*\| `(\w+)/specs/(\w+)\.antt` \| *(\d+) \|", re.M)
 
 
@@ -80,6 +82,9 @@ def faults():
             yield f"{path} has {found} lines, not {lines}"
         listed.add(path)
     yield from (f"{path} is missing" for path in sorted(wanted - listed))
+    for path in sorted(CRATES.glob("*/specs/**/*.antt")):
+        if CONSTANTS.search(path.read_text("utf-8")):
+            yield f"{path} imports a constant of the code"
 
 
 found = [f"{PAGE}: {fault}" for fault in faults()]
