@@ -1,4 +1,4 @@
-//! The exports on the journal of a file of sealed pages. `variant` is a number of `aegis_c_calls::variant`. The caller
+//! The exports on the journal of a random-access file. `variant` is a number of `aegis_c_calls::variant`. The caller
 //! reads and writes the file and the journal, and syncs them.
 //!
 //! Each returns a code of `aegis_c_calls::refusal`. After a code other than 0, nothing has changed.

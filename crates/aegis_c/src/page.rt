@@ -1,4 +1,4 @@
-//! The exports on a page and a header of a file of sealed pages. `variant` is a number of `aegis_c_calls::variant`. The
+//! The exports on a page and a header of a random-access file. `variant` is a number of `aegis_c_calls::variant`. The
 //! caller reads and writes the file.
 //!
 //! Each returns a code of `aegis_c_calls::refusal`. After a code but that of an invalid tag, nothing has changed.

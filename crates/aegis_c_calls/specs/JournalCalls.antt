@@ -1,4 +1,4 @@
--- What each call on the journal of a file of sealed pages does: the code that it returns, and the bytes at its pointers
+-- What each call on the journal of a random-access file does: the code that it returns, and the bytes at its pointers
 -- before and after it. Journals are those of `aegis_storage`, under the key and the beginning that `aegis_pages` has for a
 -- file. A record has the name of its call.
 use Rattle.std.specs.Prelude.{ℕ, ℤ, ◌+◌, ◌==◌, leb, Option, Some, None, if◌then◌else◌, ◌≡◌, ◌≢◌, ◌<◌, ◌≤◌, List, [], ◌∷◌, ◌++◌, drop, length, take}

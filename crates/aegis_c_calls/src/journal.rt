@@ -1,4 +1,4 @@
-//! The calls on the journal of a file of sealed pages, which C writes and reads. A journal is written a write at a
+//! The calls on the journal of a random-access file, which C writes and reads. A journal is written a write at a
 //! time: a state, of the role [`JOURNAL`], has its MAC so far. Its bytes are those of `aegis_storage`, so what is
 //! proved of crashes there is of them. `N` is the length of the variant's keys, in bytes.
 

@@ -1,4 +1,4 @@
-//! The calls on a page and on a header of a file of sealed pages, which C reads and writes. `N` is the length of the
+//! The calls on a page and on a header of a random-access file, which C reads and writes. `N` is the length of the
 //! variant's keys and nonces, in bytes.
 
 ghost use Rattle.std.specs.Prelude.{◌≡◌, Some};

@@ -1,4 +1,4 @@
-//! Files in place, and storages under them.
+//! Random-access files, and storages under them.
 
 pub mod both_or_none;
 pub mod kept_commitment;

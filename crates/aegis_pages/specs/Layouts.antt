@@ -1,4 +1,4 @@
--- How a file of sealed pages is laid out: its header, and sealed pages, their associated data and their places.
+-- How a random-access file is laid out: its header, and sealed pages, their associated data and their places.
 use Rattle.std.specs.Prelude.{ℕ, ◌+◌, ◌-◌, ◌*◌, ◌≤◌, List, ◌∷◌, ◌++◌, codes, drop, length, replicate, take, ◌≡◌, ◌^◌, ◌<◌, IfSome, Option}
 use Rattle.std.specs.Int.{to_le_bytes, w32, w64}
 use Rattle.aegis_base.specs.Variant.{Variant, key_length}

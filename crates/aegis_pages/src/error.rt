@@ -1,4 +1,4 @@
-//! The errors of sealed pages.
+//! The errors of random-access files.
 
 use std::io;
 use thiserror::Error;

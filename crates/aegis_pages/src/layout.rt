@@ -1,4 +1,4 @@
-//! How a file of sealed pages is laid out.
+//! How a random-access file is laid out.
 
 ghost use Rattle.std.specs.Prelude.{◌≡◌, ◌+◌, ◌*◌, ◌<◌, ◌≤◌, ◌↔◌, IfSome, IsSome, IsTrue, length, ℕ};
 ghost use Rattle.aegis_base.specs.Variant.{key_length};

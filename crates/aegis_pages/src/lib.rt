@@ -1,5 +1,5 @@
-//! Sealed pages: contents that are read and written at any place, in a file whose pages are sealed one by one. After a
-//! crash, the changes of a commit are all there, or none.
+//! Random-access files: contents that are read and written at any place, in a file whose pages are sealed one by
+//! one. After a crash, the changes of a commit are all there, or none.
 //!
 //! [`SealedPages`] works on any [`aegis_storage::Storage`], such as a vector or a file, and on a second one for its
 //! journal. It takes a fresh nonce for each page and header that it writes from the caller's [`Nonces`]. Changes are

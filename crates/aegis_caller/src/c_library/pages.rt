@@ -1,4 +1,4 @@
-//! Pages and headers of files in place: what was sealed is opened.
+//! Pages and headers of random-access files: what was sealed is opened.
 
 ghost use Rattle.std.specs.Prelude.{◌≡◌, IsOk, OnOk, Some, length};
 ghost use Rattle.aegis_base.specs.Variant.{key_length};

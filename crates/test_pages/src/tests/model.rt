@@ -1,4 +1,4 @@
-//! Random calls on sealed pages and on a vector that holds the same contents.
+//! Random calls on a random-access file and on a vector that holds the same contents.
 
 use super::{Counter, ID, KEY, copy, part_mut};
 use aegis_pages::SealedPages;
