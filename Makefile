@@ -97,7 +97,7 @@ check-standin:
 check-mutants:
 	python3 tools/mutants.py try
 
-# Tries a tenth of them, over the proofs that the gate has kept: another tenth on each day of the year.
+# Tries a tenth of them, that of the day MUTANTS_DAY of the year, over the proofs that the gate has kept.
 check-mutants-rotated:
 	RT_JOBS=1 python3 tools/mutants.py try-tenth
 

@@ -271,8 +271,8 @@ def try_listed(crates):
 
 
 def try_tenth():
-    """Tries a tenth of the mutants that are listed, of few crates, since those of a crate share its proof: another one on each
-    day of the year, or that of the day MUTANTS_DAY."""
+    """Tries a tenth of the mutants that are listed, of few crates, since those of a crate share its proof: that of the day
+    MUTANTS_DAY of the year, or of today."""
     day, mutants = int(os.environ.get("MUTANTS_DAY") or time.strftime("%j")), list(listed("mutants.txt"))
     start, stop = (len(mutants) * tenth // 10 for tenth in (day % 10, day % 10 + 1))
     print(f"day {day} of the year: mutants {start + 1} to {stop} of {len(mutants)}", flush=True)
