@@ -132,8 +132,6 @@ command=$(sed -n 's/^1\. .*`\(sha256sum [^`]*\)`.*/\1/p' dist/VERIFY.md)
 
 # A signature of them verifies by the command of the page. One of other sums, or by another key, does not.
 command=$(sed -n 's/^ *\(ssh-keygen -Y verify .*\)$/\1/p' dist/VERIFY.md)
-for key in key other; do ssh-keygen -q -t ed25519 -N '' -f "$work/$key"; done
-echo "hunkravy $(cat "$work/key.pub")" > "$work/signers"
 verifies() {
     cp "$dist/SHA256SUMS" "$work"
     rm -f "$work/SHA256SUMS.sig"
@@ -141,8 +139,14 @@ verifies() {
     sed -i "$2" "$work/SHA256SUMS"
     (cd "$work" && eval "$command" > "$work/said" 2>&1)
 }
-verifies key '' || fail "$(cat "$work/said")"
-if verifies key '1s/^./x/' || verifies other ''; then fail 'a wrong signature is accepted'; fi
+if command -v ssh-keygen > /dev/null; then
+    for key in key other; do ssh-keygen -q -t ed25519 -N '' -f "$work/$key"; done
+    echo "hunkravy $(cat "$work/key.pub")" > "$work/signers"
+    verifies key '' || fail "$(cat "$work/said")"
+    if verifies key '1s/^./x/' || verifies other ''; then fail 'a wrong signature is accepted'; fi
+else
+    echo 'left out: the signature of a release, since ssh-keygen is not installed'
+fi
 
 # The size and the changelog of each package. The sums in each package and in the wheel are those of all of its files, and
 # programs that are built over the shared library depend on this version of it.
