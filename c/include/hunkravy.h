@@ -94,11 +94,12 @@ enum hunkravy_code {
     HUNKRAVY_CONTEXT_TOO_LONG = -9,
     /* The header is not that of a record stream. */
     HUNKRAVY_UNKNOWN_HEADER = -10,
-    /* A record has less than HUNKRAVY_RECORD_BYTES. */
+    /* A record has less than HUNKRAVY_RECORD_BYTES, or the bytes of a journal begin with no write. */
     HUNKRAVY_WRONG_RECORD_LENGTH = -11,
     /* The page size is less than HUNKRAVY_PAGE_MIN_SIZE or more than HUNKRAVY_PAGE_MAX_SIZE. */
     HUNKRAVY_WRONG_PAGE_SIZE = -12,
-    /* The contents of a file have more than HUNKRAVY_PAGE_MAX_CONTENTS_BYTES, or a page would begin after that many. */
+    /* The contents of a file have more than HUNKRAVY_PAGE_MAX_CONTENTS_BYTES, a page would begin after that many, or a
+       journal is too long. */
     HUNKRAVY_FILE_TOO_LONG = -13,
     /* The length is neither 0 nor that of the message that was decrypted. */
     HUNKRAVY_WRONG_MESSAGE_LENGTH = -14,
@@ -195,12 +196,12 @@ HUNKRAVY_MUST_USE int hunkravy_verify(uint32_t variant, const uint8_t *c, size_t
 /* ---- A message in chunks of any length, including 0 */
 
 /*
- * The state of a message or of a MAC. It holds its variant, and whether it encrypts, decrypts or computes a MAC. Do
- * not write to it: the functions are safe on any state, but their output is then unspecified.
+ * The state of a message, of a MAC, or of a journal (hunkravy_pages.h). It holds its variant and its use. Do not write
+ * to it: the functions are safe on any state, but their output is then unspecified.
  *
  * A state can be copied with `=`, and dropped at any time. Nothing has to be freed. For a zeroed state every function
- * except the two inits returns HUNKRAVY_WRONG_STATE. Until it has ended a state is as secret as the key: call
- * hunkravy_wipe before you drop it.
+ * except those that initialise it returns HUNKRAVY_WRONG_STATE. Until it has ended a state is as secret as the key:
+ * call hunkravy_wipe before you drop it.
  */
 typedef struct hunkravy_state {
     uint64_t opaque[84];

@@ -105,8 +105,9 @@ HUNKRAVY_MUST_USE int hunkravy_page_header_open(uint32_t variant, const uint8_t 
 
 /* ---- The journal
  *
- * After a crash all writes of a commit are there, or none, if you follow these steps. docs/RANDOM-ACCESS.md has the
- * model of a crash that this is proved for.
+ * After a crash all writes of a commit are there, or none, if you follow these steps. The bytes of the journal, and the
+ * decision on it, come from proved functions. The steps are tested, with file.c. RANDOM-ACCESS.md has the model of a
+ * crash.
  *
  * To commit, with a journal that is empty, and a file and a journal that are synced:
  *
@@ -121,7 +122,8 @@ HUNKRAVY_MUST_USE int hunkravy_page_header_open(uint32_t variant, const uint8_t 
  *
  * To open a file, or after an error of a commit:
  *
- * 1. Read the journal, and the first HUNKRAVY_PAGE_HEADER_BLOCK_BYTES of the file.
+ * 1. If the journal is not empty, sync both, and call posix_fadvise with POSIX_FADV_DONTNEED, so that reads return what
+ *    the disk has. Read the journal, and the first HUNKRAVY_PAGE_HEADER_BLOCK_BYTES of the file.
  * 2. hunkravy_journal_check. After an error leave both as they are.
  * 3. Sync the file. If there are writes, write the journal to another file, sync that, rename it over the journal, and
  *    sync the folder: after a sync that failed, Linux returns bytes that the disk does not have. Do not write the
@@ -152,8 +154,8 @@ HUNKRAVY_MUST_USE int hunkravy_journal_init(uint32_t variant, hunkravy_state *st
     const uint8_t *id, const uint8_t *npub, const uint8_t *k, size_t klen, uint8_t *start) HUNKRAVY_NONNULL(2, 4, 5, 8);
 
 /*
- * Takes in the write of `byteslen` bytes at position `place` of the file. Writes the HUNKRAVY_JOURNAL_HEAD_BYTES at
- * `head`, which come in front of the bytes in the journal.
+ * Adds the write of `byteslen` bytes at position `place` of the file to the journal. Writes the
+ * HUNKRAVY_JOURNAL_HEAD_BYTES at `head`, which come in front of the bytes in the journal.
  *
  * Returns HUNKRAVY_OK, HUNKRAVY_WRONG_STATE, or HUNKRAVY_FILE_TOO_LONG if the write would end past 2^63 - 1, or the
  * journal past 2^60. After an error nothing is written.
@@ -162,16 +164,16 @@ HUNKRAVY_MUST_USE int hunkravy_journal_entry(hunkravy_state *st, uint64_t place,
     uint8_t *head) HUNKRAVY_NONNULL(1, 5);
 
 /*
- * Writes the HUNKRAVY_JOURNAL_MAC_BYTES at `mac`, with which the journal ends, and zeros the state.
+ * Writes the HUNKRAVY_JOURNAL_MAC_BYTES at `mac`, with which the journal ends, and zeroes the state.
  *
  * Returns HUNKRAVY_OK, or HUNKRAVY_WRONG_STATE, after which nothing is written.
  */
 HUNKRAVY_MUST_USE int hunkravy_journal_final(hunkravy_state *st, uint8_t *mac) HUNKRAVY_NONNULL(1, 2);
 
 /*
- * Decides what is to be made of the journal of a file. `file` is what the file begins with: at least
- * HUNKRAVY_PAGE_HEADER_BLOCK_BYTES, or the whole file if it is shorter. `writeslen` becomes the length of the writes in
- * the journal, which begin at `journal + HUNKRAVY_JOURNAL_START_BYTES` and are to be made again. If it is 0, none are.
+ * Checks the journal of a file, and finds the writes that are to be made again. `file` has the first bytes of the file:
+ * at least HUNKRAVY_PAGE_HEADER_BLOCK_BYTES, or the whole file if it is shorter. The writes begin at
+ * `journal + HUNKRAVY_JOURNAL_START_BYTES`, and `writeslen` becomes their length. If it is 0, there are none.
  *
  * A whole journal under this key is accepted if its commit began or ended with the header of the file, or if the file
  * has no header of this variant and key. A torn or empty journal is accepted if the file has a header, and the journal
