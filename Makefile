@@ -89,7 +89,7 @@ quick-over-the-stand-in: | $(OUT)
 STANDIN = $(OUT)/x86-64-v2/aegis_c.a $(OUT)/x86-64-v3/aegis_c.a
 OVER_STANDIN = check-header check-c-both check-rust-both test-python fuzz
 
-# Whether the stand-in gives the stored answers through each function of each C header, as the proved library does in check-c.
+# Whether the stand-in passes the tests of each C header, with the stored answers, as the proved library does in check-c.
 check-standin:
 	$(MAKE) OUT=out/quick OVER_STANDIN=check-c-both quick-over-the-stand-in
 

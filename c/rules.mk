@@ -73,8 +73,9 @@ gcc-aarch64-linux-gnu qemu-user:
 
 # ---- Its tests
 
-# Its headers, and over the library with both levels and over each level alone the examples, every call of each header
-# against the stored lines, and forgeries, and what hunkravy_wipe leaves in memory; then what does not depend on the level.
+# Its headers, and over the library with both levels and over each level alone the examples, every call of each header,
+# against the stored lines where these have its result, and forgeries, and what hunkravy_wipe leaves in memory; then what does
+# not depend on the level.
 # A level that this processor lacks is left out. For ARM the programs run under an emulator, where the sanitizers do not look
 # for leaks.
 check-c: $(if $(filter aarch64,$(FOLDER)),check-c-aarch64 check-sanitized,check-header $(addprefix check-c-,both $(RUNNABLE)) \
