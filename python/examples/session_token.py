@@ -3,7 +3,7 @@ expires.
 
 A token is URL-safe base64 of a key's id (4 bytes), a nonce (32), and the encrypted payload with its tag. The id is
 associated data too. With it keys can be changed: the newest key encrypts, and older ones decrypt until they are
-dropped. Whoever has a token can use it until it expires; only dropping its key revokes it.
+dropped. A stolen token is valid until it expires: only dropping its key revokes it.
 
     session_token.py [KEYFILE]      KEYFILE has 32 random bytes. Without it the key is random.
 """
