@@ -149,7 +149,7 @@ SPEED = (
 STATED = {
     "README.md": SPEED,
     "rust/README.md": SPEED,
-    "python/README.md": SPEED,
+    "python/README.md": SPEED[:1],
     "docs/RANDOM-ACCESS.md": (
         "N bytes: {AEGIS128_NONCE_BYTES} for AEGIS-128L, 128X2 and 128X4, and {AEGIS256_NONCE_BYTES} for AEGIS-256, 256X2",
         "| 4 | the page size, from {PAGE_MIN_SIZE} to {PAGE_MAX_SIZE:,} bytes |",
