@@ -14,7 +14,7 @@ Examples:
 
 Exit status:
   0  success
-  1  the sealed file is rejected, or --from is past its end
+  1  the sealed file is rejected, or --from is past the end of the contents
   2  the command line is wrong
   3  any other failure: I/O, memory, a bad key file, or a rejected OUT
   127  the processor is too old, or the build for it is missing

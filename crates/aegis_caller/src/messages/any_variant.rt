@@ -8,7 +8,7 @@ ghost use Rattle.aegis_variants.specs.Cipher.{key_of, nonce_of, variant_of, stan
 use aegis::{Error, MAX_AEAD_BYTES};
 use aegis_variants::{AnyCipher, AnyVariant};
 
-/// What is sealed always opens, to the message that it was.
+/// Decrypting what was encrypted succeeds, and gives the message.
 pub fn sealed_and_opened(
     cipher: &AnyCipher,
     header: &[u8],

@@ -5,7 +5,7 @@ ghost use Rattle.std.specs.Prelude.{◌≡◌, ◌≤◌, IsOk, length};
 use aegis::MAX_AEAD_BYTES;
 use aegis::aegis128l::{Aegis128L, Error, Key, Nonce};
 
-/// What is sealed always opens, to the message that it was.
+/// Decrypting what was encrypted succeeds, and gives the message.
 pub fn round_trip(key: &Key, nonce: &Nonce, header: &[u8], message: &mut [u8]) -> Result<(), Error>
     requires header_within { length header.now ≤ MAX_AEAD_BYTES }
     requires message_within { length message.old ≤ MAX_AEAD_BYTES }

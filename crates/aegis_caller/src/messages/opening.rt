@@ -151,7 +151,7 @@ pub fn open_in_place<'a>(
     decryptor.finalize(tag)
 }
 
-/// Seals a message in any chunks, and opens it in two others, cut at any place. The beginning of the destination is
+/// Seals a message in any chunks, and opens it in two, split at any byte. The beginning of the destination is
 /// then the message.
 pub fn seal_in_chunks_and_open_in_others(
     key: &[u8; 32],

@@ -13,7 +13,7 @@ use aegis::laws::record_stream_lengths;
 use aegis::record::{MAX_CONTEXT_BYTES, RecordError, open_records, seal_records};
 use std::alloc::Allocator;
 
-/// Seals messages as a stream, and opens the stream again: what is handed out is the messages, unless memory runs out.
+/// Seals messages as a stream, and opens the stream again, which returns the messages, unless memory runs out.
 pub fn sealed_and_opened_records<A: Allocator + Copy>(
     alloc: A,
     key: &[u8; 32],
