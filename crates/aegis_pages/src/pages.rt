@@ -382,9 +382,9 @@ impl<
     /// journal, then written to their places, and then the journal is emptied, each with a sync.
     ///
     /// Returns [`PagesError::Broken`], [`PagesError::TooLong`], [`PagesError::Read`], [`PagesError::Nonce`] or
-    /// [`PagesError::OutOfMemory`] before anything is written. After [`PagesError::Write`] the file is broken: each
-    /// later call returns [`PagesError::Broken`]. Open it again, which gives the contents before the changes or those
-    /// after them.
+    /// [`PagesError::OutOfMemory`] before anything is written. After [`PagesError::Write`] the file is broken, unless
+    /// nothing has changed: reads, changes and commits of a broken one return [`PagesError::Broken`]. Open it again,
+    /// which gives the contents before the changes or those after them.
     pub fn commit(&mut self) -> Result<(), PagesError>
         ensures layout { self.new.layout ≡ self.old.layout }
         ensures len { self.new.len ≡ self.old.len }
