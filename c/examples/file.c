@@ -7,7 +7,7 @@
  * sets text NUMBER, which may be the next one, or prints it. A text is a page, and has at most 4,032 bytes. The journal is
  * FILE.journal. A key file has 32 bytes. cc file.c $(pkg-config --cflags --libs hunkravy)
  */
-#define _POSIX_C_SOURCE 200809L
+#define _XOPEN_SOURCE 700
 
 #include "hunkravy_pages.h"
 
@@ -82,7 +82,7 @@ static int forgotten(int fd)
  */
 static int write_again(struct file *file, const uint8_t *journal, size_t length)
 {
-    int old = file->journal, copy = open(file->copy_path, O_RDWR | O_CREAT | O_TRUNC, 0600);
+    int old = file->journal, copy = open(file->copy_path, O_RDWR | O_CREAT | O_TRUNC | O_NOFOLLOW, 0600);
     if (copy < 0 || !put(copy, journal, length, 0) || fsync(copy) != 0 ||
         rename(file->copy_path, file->journal_path) != 0 || fsync(file->folder) != 0) {
         return 0;
@@ -208,14 +208,15 @@ static int commit(const struct file *file, struct write *writes, size_t count, u
 static int begin(struct file *file, const char *key_path, const char *path)
 {
     struct flock whole = {.l_type = F_WRLCK, .l_whence = SEEK_SET};
-    char folder[PATH_BYTES];
-    if (!get(open(key_path, O_RDONLY), file->key, KEY_BYTES, 0) ||
-        snprintf(file->copy_path, PATH_BYTES, "%s.journal-copy", path) >= PATH_BYTES) {
+    char real[PATH_BYTES], folder[PATH_BYTES];
+    file->fd = open(path, O_RDWR | O_CREAT, 0600);
+    /* The journal of a file is beside it, and not beside a link to it. */
+    if (!get(open(key_path, O_RDONLY), file->key, KEY_BYTES, 0) || realpath(path, real) == NULL ||
+        snprintf(file->journal_path, PATH_BYTES, "%s.journal", real) >= PATH_BYTES ||
+        snprintf(file->copy_path, PATH_BYTES, "%s.jrncopy", real) >= PATH_BYTES) {
         return 0;
     }
-    snprintf(file->journal_path, PATH_BYTES, "%s.journal", path);
-    strcpy(folder, path);
-    file->fd = open(path, O_RDWR | O_CREAT, 0600);
+    strcpy(folder, real);
     file->folder = open(dirname(folder), O_RDONLY);
     if (fcntl(file->fd, F_SETLK, &whole) != 0) {
         return 0;

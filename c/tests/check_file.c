@@ -394,7 +394,7 @@ int main(int argc, char **argv)
     snprintf(key_path, sizeof key_path, "%s/key", folder);
     snprintf(path, sizeof path, "%s/file", folder);
     snprintf(journal_path, sizeof journal_path, "%s.journal", path);
-    snprintf(copy_path, sizeof copy_path, "%s.journal-copy", path);
+    snprintf(copy_path, sizeof copy_path, "%s.jrncopy", path);
     fd = open(key_path, O_WRONLY | O_CREAT, 0600);
     HOLDS(write(fd, key, sizeof key) == (ssize_t)sizeof key && close(fd) == 0);
     if (argc > 2) {

@@ -60,6 +60,22 @@ class RandomAccessError(ValueError):
         return CAUSES[self.cause].format(self.page)
 
 
+_forks = 0
+
+
+def _count_fork() -> None:
+    global _forks
+    _forks += 1
+
+
+os.register_at_fork(after_in_child=_count_fork)
+
+
+def process() -> tuple[int, int]:
+    """Returns what no process has in common with one that it forks, also where both are process 1 of a container."""
+    return os.getpid(), _forks
+
+
 def write_all(descriptor: int, data: Union[bytes, bytearray, memoryview], place: int) -> None:
     """Writes all of the data at a place."""
     with memoryview(data) as view:
@@ -100,6 +116,8 @@ class Journal:
 
     def __init__(self, path: str, file: int) -> None:
         self.path = path + ".journal"
+        # As long as that name, so that there is room for it too.
+        self._copy = path + ".jrncopy"
         self._file = file
 
     def size(self) -> int:
@@ -151,7 +169,7 @@ class Journal:
         After a sync that failed, Linux returns bytes that the disk does not have, and the next sync reports no error.
         The old one stays until the new one is whole, since the disk may need it.
         """
-        copy = self.path + "-copy"
+        copy = self._copy
         with contextlib.suppress(FileNotFoundError):
             os.unlink(copy)
         made = self._create(copy)
@@ -235,10 +253,11 @@ class RandomAccessFile(variants.Secret):
     ) -> None:
         """Opens and locks the file."""
         self._turn = threading.RLock()
-        self._owner = os.getpid()
+        self._owner = process()
         # The bytes of each changed page, which are never changed in place, so that a savepoint need not copy them.
         self._changes: dict[int, bytes] = {}
-        # What a batch goes back to, if there is one.
+        # What a change that an exception of a signal cuts short is taken back to: pages, and the length.
+        self._undo: Optional[tuple[dict[int, Optional[bytes]], int]] = None
         self._is_in_batch = self._is_broken = False
         self._cipher = _native.Cipher(cipher._VARIANT, key, TAG_BYTES)
         self._nonce_bytes = cipher.NONCE_BYTES
@@ -307,8 +326,9 @@ class RandomAccessFile(variants.Secret):
                 self.write_at(size, b"")
                 return size
             count = self._page_count(size)
-            self._changes = {number: page for number, page in self._changes.items() if number < count}
-            self._size = size
+            changes = {number: page for number, page in self._changes.items() if number < count}
+            # Nothing is called between the two, so no signal comes between them.
+            self._changes, self._size = changes, size
             return size
 
     def open_stream(self) -> RandomAccessStream:
@@ -334,8 +354,22 @@ class RandomAccessFile(variants.Secret):
             place = max(offset - start, 0)
             page[place : place + len(part)] = part
             changed[number] = bytes(page)
+        before = {number: self._changes.get(number) for number in changed}
+        size = max(self._size, end)
+        self._undo = before, self._size
         self._changes.update(changed)
-        self._size = max(self._size, end)
+        self._size, self._undo = size, None
+
+    def _take_back(self) -> None:
+        """Takes back a change that an exception of a signal has cut short."""
+        if self._undo is not None:
+            pages, size = self._undo
+            for number, page in pages.items():
+                if page is None:
+                    self._changes.pop(number, None)
+                else:
+                    self._changes[number] = page
+            self._size, self._undo = size, None
 
     def _page(self, number: int) -> bytes:
         """Returns the contents of a page, with zeros if it was never written."""
@@ -384,15 +418,15 @@ class RandomAccessFile(variants.Secret):
             try:
                 self._is_broken = True
                 self._make(journal, writes)
-                self._is_broken = False
             finally:
                 os.close(journal)
-            self._counter, self._stored, self._changes = self._counter + 1, self._size, {}
+            # A signal before this leaves the file broken, although its commit is made.
+            self._counter, self._stored, self._changes, self._is_broken = self._counter + 1, self._size, {}, False
 
     def discard(self) -> None:
         """Discards all changes since the last commit."""
         with self._turn:
-            self._changes, self._size = {}, self._stored
+            self._changes, self._size, self._undo = {}, self._stored, None
 
     @contextlib.contextmanager
     def batch(self) -> Iterator[Self]:
@@ -421,7 +455,7 @@ class RandomAccessFile(variants.Secret):
 
     def _go_back(self, changes: dict[int, bytes], size: int, counter: int) -> None:
         if counter == self._counter:
-            self._changes, self._size = changes, size
+            self._changes, self._size, self._undo = changes, size, None
         else:
             self.discard()
 
@@ -522,10 +556,11 @@ class RandomAccessFile(variants.Secret):
     def _check(self) -> None:
         if self.closed:
             raise ValueError("I/O operation on closed file")
-        if self._owner != os.getpid():
+        if self._owner != process():
             raise RandomAccessError("locked")
         if self._is_broken:
             raise RandomAccessError("broken")
+        self._take_back()
 
     def _check_name(self) -> None:
         """Raises an error unless the file is at its path and has no other name, since its journal would not be found."""
@@ -538,12 +573,15 @@ class RandomAccessFile(variants.Secret):
             raise RandomAccessError("moved")
 
     def close(self) -> None:
-        """Commits the changes, and closes the file. In another process than the one that opened it, it only closes it."""
+        """Commits the changes, and closes the file.
+
+        In another process than the one that opened it, and in a batch that has not ended, it only closes it.
+        """
         with self._turn:
             if self.closed:
                 return
             try:
-                if self._owner == os.getpid() and not self._is_broken:
+                if self._owner == process() and not self._is_broken and not self._is_in_batch:
                     self.commit()
             finally:
                 self._drop()

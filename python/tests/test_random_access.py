@@ -318,7 +318,9 @@ class Files(unittest.TestCase):
         child = os.fork()
         if child == 0:
             try:
-                file.read_at(0, 1)
+                # Both are process 1, if each is the first of a container.
+                with mock.patch.object(os, "getpid", return_value=os.getppid()):
+                    file.read_at(0, 1)
             except RandomAccessError as error:
                 file.close()
                 os._exit(0 if error.cause == "locked" else 1)
@@ -327,6 +329,45 @@ class Files(unittest.TestCase):
         self.assertCause("locked", RandomAccessFile, self.path, KEY)
         file.close()
         self.assertEqual(contents(self.path), b"of the parent")
+
+    def test_a_write_that_a_signal_cuts_short(self) -> None:
+        class Interrupted(dict[int, bytes]):
+            def update(self, *changes: Any) -> None:
+                super().update(*changes)
+                raise KeyboardInterrupt
+
+        with RandomAccessFile.create(self.path, KEY) as file:
+            file.write_at(0, b"before")
+            file._changes = Interrupted(file._changes)
+            with self.assertRaises(KeyboardInterrupt):
+                file.write_at(0, bytes(9000))
+            self.assertEqual(file.read_at(0, 9000), b"before")
+        self.assertEqual(contents(self.path), b"before")
+
+    def test_a_commit_that_a_signal_cuts_short(self) -> None:
+        def interrupted(descriptor: int) -> None:
+            close(descriptor)
+            if not journal.exists():
+                raise KeyboardInterrupt
+
+        close, file = os.close, RandomAccessFile.create(self.path, KEY)
+        journal = self.path.with_name(self.path.name + ".journal")
+        file.write_at(0, b"after")
+        with mock.patch.object(os, "close", interrupted), self.assertRaises(KeyboardInterrupt):
+            file.commit()
+        self.assertCause("broken", file.write_at, 0, b"lost")
+        file.close()
+        self.assertEqual(contents(self.path), b"after")
+
+    def test_the_longest_name(self) -> None:
+        path = self.path.with_name("x" * (255 - len(".journal")))
+        with RandomAccessFile.create(path, KEY) as file:
+            file.write_at(0, b"before")
+            file.commit()
+            file.write_at(0, b"after ")
+            with mock.patch.object(_random_access.Journal, "remove", side_effect=OSError), self.assertRaises(OSError):
+                file.commit()
+        self.assertEqual(contents(path), b"after ")
 
     def test_damage_and_wrong_keys(self) -> None:
         with RandomAccessFile.create(self.path, KEY) as file:
