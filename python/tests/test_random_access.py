@@ -332,8 +332,8 @@ class Files(unittest.TestCase):
 
     def test_a_write_that_a_signal_cuts_short(self) -> None:
         class Interrupted(dict[int, bytes]):
-            def update(self, *changes: Any) -> None:
-                super().update(*changes)
+            def update(self, *changes: Any, **named: Any) -> None:
+                super().update(*changes, **named)
                 raise KeyboardInterrupt
 
         with RandomAccessFile.create(self.path, KEY) as file:
