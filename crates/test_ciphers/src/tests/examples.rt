@@ -72,18 +72,6 @@ fn six_chunks(rt: HostRuntime) -> Result<(), Fail> {
     let cipher = Aegis128L::<16>::new(&SHORT_KEY, &ZEROS);
     let expected = <[u8; 114] as FromHex>::from_hex(AEGIS128L_CIPHERTEXT)?;
     let tag = <[u8; 16] as FromHex>::from_hex(AEGIS128L_TAG)?;
-    let mut sealed = [0; 114];
-    let mut encryptor = cipher.encryptor(&ASSOCIATED_DATA);
-    encryptor.update(&MESSAGE[..31], &mut sealed[..31]);
-    encryptor.update(&MESSAGE[31..32], &mut sealed[31..32]);
-    encryptor.update(&MESSAGE[32..64], &mut sealed[32..64]);
-    encryptor.update(&[], &mut []);
-    encryptor.update(&MESSAGE[64..97], &mut sealed[64..97]);
-    encryptor.update(&MESSAGE[97..], &mut sealed[97..]);
-    assert_eq!(rt; encryptor.remaining(), 2_305_843_009_213_693_837);
-    assert_bytes(&rt, &sealed, &expected, &"an encryptor");
-    assert_bytes(&rt, &encryptor.finalize(), &tag, &"an encryptor");
-
     let chunks = [
         &MESSAGE[..31],
         &MESSAGE[31..32],
@@ -97,6 +85,16 @@ fn six_chunks(rt: HostRuntime) -> Result<(), Fail> {
     let found = cipher.seal_chunks(&ASSOCIATED_DATA, &chunks, &mut sealed);
     assert_bytes(&rt, &sealed, &expected, &"at once");
     assert_bytes(&rt, &found, &tag, &"at once");
+    Ok(())
+}
+
+#[test]
+fn bytes_that_remain(rt: HostRuntime) -> Result<(), Fail> {
+    let cipher = Aegis128L::<16>::new(&SHORT_KEY, &ZEROS);
+    let mut buffer = MESSAGE;
+    let mut encryptor = cipher.encryptor(&ASSOCIATED_DATA);
+    encryptor.update_in_place(&mut buffer);
+    assert_eq!(rt; encryptor.remaining(), 2_305_843_009_213_693_837);
     Ok(())
 }
 
