@@ -11,7 +11,7 @@ import stat
 import threading
 from collections.abc import Iterator
 from types import TracebackType
-from typing import TYPE_CHECKING, Optional, Self, Union
+from typing import TYPE_CHECKING, NamedTuple, Optional, Self, Union
 
 from . import _native, _variants as variants
 from ._files import RawFile, bytes_of
@@ -42,6 +42,15 @@ CAUSES = {
     "moved": "the file was renamed, removed or replaced, or has several hard links",
     "broken": "a commit failed: open the file again",
 }
+
+
+class Savepoint(NamedTuple):
+    """What a batch that fails goes back to: the changed pages, the length and the commits at its beginning."""
+
+    outer: Optional[Savepoint]
+    changes: dict[int, bytes]
+    size: int
+    counter: int
 
 
 class RandomAccessError(ValueError):
@@ -258,7 +267,8 @@ class RandomAccessFile(variants.Secret):
         self._changes: dict[int, bytes] = {}
         # What a change that an exception of a signal cuts short is taken back to: pages, and the length.
         self._undo: Optional[tuple[dict[int, Optional[bytes]], int]] = None
-        self._is_in_batch = self._is_broken = False
+        self._batch: Optional[Savepoint] = None
+        self._is_broken = False
         self._cipher = _native.Cipher(cipher._VARIANT, key, TAG_BYTES)
         self._nonce_bytes = cipher.NONCE_BYTES
         self._path = os.path.realpath(path)
@@ -310,7 +320,7 @@ class RandomAccessFile(variants.Secret):
         with self._turn, memoryview(data) as given, bytes_of(given) as view:
             self._check()
             self._change(offset, view)
-            if len(self._changes) * self._page_size > MOST_CHANGED_BYTES and not self._is_in_batch:
+            if len(self._changes) * self._page_size > MOST_CHANGED_BYTES and self._batch is None:
                 self.commit()
             return len(view)
 
@@ -436,26 +446,27 @@ class RandomAccessFile(variants.Secret):
         changes are discarded. Other threads wait until the batch ends.
         """
         with self._turn:
-            is_outer = not self._is_in_batch
-            if is_outer:
+            if self._batch is None:
                 self.commit()
             self._check()
-            savepoint = (dict(self._changes), self._size, self._counter)
-            self._is_in_batch = True
+            own = Savepoint(self._batch, dict(self._changes), self._size, self._counter)
             try:
+                self._batch = own
                 yield self
-                if is_outer:
+                if own.outer is None:
                     self.commit()
             except BaseException:
-                self._go_back(*savepoint)
+                # A block that a signal left open ends when it is freed, perhaps after the batch that it is in.
+                if self._batch is own:
+                    self._go_back(own)
                 raise
             finally:
-                if is_outer:
-                    self._is_in_batch = False
+                if self._batch is own or own.outer is None:
+                    self._batch = own.outer
 
-    def _go_back(self, changes: dict[int, bytes], size: int, counter: int) -> None:
-        if counter == self._counter:
-            self._changes, self._size, self._undo = changes, size, None
+    def _go_back(self, batch: Savepoint) -> None:
+        if batch.counter == self._counter:
+            self._changes, self._size, self._undo = batch.changes, batch.size, None
         else:
             self.discard()
 
@@ -581,7 +592,7 @@ class RandomAccessFile(variants.Secret):
             if self.closed:
                 return
             try:
-                if self._owner == process() and not self._is_broken and not self._is_in_batch:
+                if self._owner == process() and not self._is_broken and self._batch is None:
                     self.commit()
             finally:
                 self._drop()
@@ -671,5 +682,5 @@ class RandomAccessStream(RawFile):
 
     def flush(self) -> None:
         """Commits, unless in a batch."""
-        if not self.closed and not self._file.closed and not self._file._is_in_batch:
+        if not self.closed and not self._file.closed and self._file._batch is None:
             self._file.commit()

@@ -296,6 +296,17 @@ class Files(unittest.TestCase):
         del file
         self.assertEqual(contents(self.path), b"first, second")
 
+    def test_a_batch_that_ends_after_its_outer_one(self) -> None:
+        with RandomAccessFile.create(self.path, KEY) as file:
+            with file.batch():
+                file.write_at(0, b"first")
+                inner = file.batch()
+                inner.__enter__()
+            file.write_at(0, b"second")
+            del inner
+            self.assertEqual(file.read_at(0, 99), b"second")
+        self.assertEqual(contents(self.path), b"second")
+
     def test_locks_and_moves(self) -> None:
         file = RandomAccessFile.create(self.path, KEY)
         self.assertCause("locked", RandomAccessFile, self.path, KEY)
