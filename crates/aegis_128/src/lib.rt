@@ -10,7 +10,7 @@ ghost use Rattle.aegis_base.specs.Variant.{Family128};
 ghost use Rattle.aegis_base.specs.Lane.{add_context, first_blocks, high_tag, keystream_blocks, last_block, low_tag, block_in, short_tag, init, init_turn, update};
 
 use aegis_aes::{AesBlock, AesBlock2, AesBlock4, Pair, Row, Rows2};
-use aegis_base::{C0, C1, LaneState, SavedLanes, SavedRows, bit_lengths, block_in_all_lanes};
+use aegis_base::{C0, C1, LaneState, SavedLanes, SavedRows, bit_lengths};
 
 /// The lanes of AEGIS-128L, 128X2 or 128X4: their rows, each with one block of every lane, and the number of updates
 /// since initialization.
@@ -103,10 +103,6 @@ impl<P: Pair> LaneState for State128<P> {
 
     const FIT_REGISTERS: bool = P::Row::LANES < 4;
 
-    const SHORT_FOLD_TURNS: usize = P::Row::LANES / 2;
-
-    ghost SHORT_FOLD_TURNS = { P.Row.LANES / 2 };
-
     const RATE: usize = 32 * P::Row::LANES;
 
     ghost RATE = { 32 * P.Row.LANES };
@@ -176,6 +172,12 @@ impl<P: Pair> LaneState for State128<P> {
         self.update(P::load(bytes, at));
     }
 
+    fn absorb_in_each(&mut self, bytes: &[u8], at: usize) {
+        let first: AesBlock = Row::load(bytes, at);
+        let second: AesBlock = Row::load(bytes, at + 16);
+        self.update(P::of(P::Row::splat(first), P::Row::splat(second)));
+    }
+
     #[inline(always)]
     fn xor_keystream(self, buffer: &mut [u8], at: usize) {
         P::load(buffer, at)
@@ -203,20 +205,7 @@ impl<P: Pair> LaneState for State128<P> {
         (sums.first(), sums.second())
     }
 
-    // The tag of lane 0 is folded in too.
-    fn short_fold_turn(&mut self, tags: P::Row, turn: usize) {
-        let even = block_in_all_lanes(tags, 2 * turn);
-        let odd = block_in_all_lanes(tags, 2 * turn + 1);
-        self.update(P::of(even, odd));
-    }
-
-    fn update_by_two(&mut self, first: P::Row, second: P::Row) {
-        self.update(P::of(first, second));
-    }
-
     ghost lanes_are = { refl };
-
-    ghost short_fold_turns_are = { refl };
 
     ghost one_two_or_four = { P.Row.one_two_or_four };
 

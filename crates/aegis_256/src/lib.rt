@@ -10,7 +10,7 @@ ghost use Rattle.aegis_base.specs.Variant.{Family256};
 ghost use Rattle.aegis_base.specs.Lane.{add_context, first_blocks, high_half, high_tag, keystream_blocks, last_block, low_half, low_tag, block_in, short_tag, init, init_turn, update};
 
 use aegis_aes::{AesBlock, AesBlock2, AesBlock4, Pair, Row, Rows2};
-use aegis_base::{C0, C1, LaneState, SavedLanes, SavedRows, bit_lengths, block_in_all_lanes};
+use aegis_base::{C0, C1, LaneState, SavedLanes, SavedRows, bit_lengths};
 
 // The first block of a key or nonce.
 fn low_half(bytes: &[u8]) -> AesBlock
@@ -131,10 +131,6 @@ impl<P: Pair> LaneState for State256<P> {
 
     const FIT_REGISTERS: bool = P::Row::LANES < 4;
 
-    const SHORT_FOLD_TURNS: usize = P::Row::LANES - 1;
-
-    ghost SHORT_FOLD_TURNS = { P.Row.LANES - 1 };
-
     const RATE: usize = 16 * P::Row::LANES;
 
     ghost RATE = { 16 * P.Row.LANES };
@@ -207,6 +203,11 @@ impl<P: Pair> LaneState for State256<P> {
         self.update(P::Row::load(bytes, at));
     }
 
+    fn absorb_in_each(&mut self, bytes: &[u8], at: usize) {
+        let block: AesBlock = Row::load(bytes, at);
+        self.update(P::Row::splat(block));
+    }
+
     #[inline(always)]
     fn xor_keystream(self, buffer: &mut [u8], at: usize) {
         P::Row::load(buffer, at)
@@ -234,18 +235,7 @@ impl<P: Pair> LaneState for State256<P> {
         (sums.first(), sums.second())
     }
 
-    fn short_fold_turn(&mut self, tags: P::Row, turn: usize) {
-        self.update(block_in_all_lanes(tags, turn + 1));
-    }
-
-    fn update_by_two(&mut self, first: P::Row, second: P::Row) {
-        self.update(first);
-        self.update(second);
-    }
-
     ghost lanes_are = { refl };
-
-    ghost short_fold_turns_are = { refl };
 
     ghost one_two_or_four = { P.Row.one_two_or_four };
 

@@ -1,17 +1,12 @@
 -- With one lane the context block is zero, and xoring it in changes no row.
-use Rattle.std.proofs.Common.{◌≡◌, ◌∙◌, ap, refl, ℕ, zero, suc, ◌≤◌, List, [], ◌∷◌, length, replicate, arith, rules}
-use Rattle.std.specs.Int.Bits.{xor_zero_r}
+use Rattle.std.proofs.Common.{◌≡◌, ◌∙◌, ap, refl, ℕ, zero, suc, ◌≤◌, List, [], ◌∷◌, length, arith, rules}
 use Rattle.aegis_aes.specs.Block.{xor}
 use Rattle.aegis_aes.specs.Lanes.{context}
+use Rattle.aegis_aes.proofs.Places.{xor-zeros}
 use Rattle.aegis_base.specs.Variant.{Family, Family128, Family256, Variant}
 use Rattle.aegis_base.specs.Lane.{add_context, c0, c1, first_blocks, high_half, low_half, block_in, init, init_turn, update, times}
 use Rattle.aegis_base.specs.Laws.{IsInitPlain, plain_turn}
 use Rattle.aegis_base.proofs.Lengths.{length-round}
-
-xor-zeros : (xs : List ℕ) (n : ℕ) → length xs ≤ n → xor xs (replicate n 0) ≡ xs
-xor-zeros [] n low = refl
-xor-zeros (x ∷ xs) zero low = absurd (omega arith)
-xor-zeros (x ∷ xs) (suc n) low = rw (xor_zero_r x, xor-zeros xs n (omega arith)) refl
 
 xor-context : (xs : List ℕ) → length xs ≤ 16 → xor xs (context 0 1) ≡ xs
 xor-context xs low = xor-zeros xs 16 low

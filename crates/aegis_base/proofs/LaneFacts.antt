@@ -19,14 +19,31 @@ pub bytes_at-same : (xs ys : List ℕ) (i k n : ℕ) → ((p : ℕ) → p < n �
 bytes_at-same xs ys i k n same =
     bytes_at-is xs i n (bytes_at ys k n) (length-bytes_at ys k n) (λ p h. same p h ∙ sym (get_or-bytes_at ys k n p 0 h))
 
+-- the n bytes from place i on, and then the next m
+pub bytes_at-append : (xs : List ℕ) (i n m : ℕ) → bytes_at xs i n ++ bytes_at xs (i + n) m ≡ bytes_at xs i (n + m)
+unfolding bytes_at
+bytes_at-append xs i zero m =
+    let here : i + 0 ≡ i = omega arith in
+    let all : 0 + m ≡ m = omega arith in
+    rw (here, all) refl
+bytes_at-append xs i (suc n) m =
+    let next : i + suc n ≡ (i + 1) + n = omega arith in
+    let all : suc n + m ≡ suc (n + m) = omega arith in
+    let rest = bytes_at-append xs (i + 1) n m in
+    rw (next, all) (λ k. slice_index xs i ∷ rest k)
+
+-- all of them
+pub bytes_at-all : (xs : List ℕ) → bytes_at xs 0 (length xs) ≡ xs
+bytes_at-all xs = bytes_at-is xs 0 (length xs) xs refl (λ k low. let place : 0 + k ≡ k = omega arith in rw place refl)
+
 -- the xor of two joined lists, if their first parts are equally long
-zip2-append : (xs ys vs ws : List ℕ) → length xs ≡ length ys → xor (xs ++ vs) (ys ++ ws) ≡ xor xs ys ++ xor vs ws
-zip2-append [] [] vs ws e = refl
-zip2-append [] (y ∷ ys) vs ws e = absurd (omega (arith, e))
-zip2-append (x ∷ xs) [] vs ws e = absurd (omega (arith, e))
-zip2-append (x ∷ xs) (y ∷ ys) vs ws e =
+pub xor-append : (xs ys vs ws : List ℕ) → length xs ≡ length ys → xor (xs ++ vs) (ys ++ ws) ≡ xor xs ys ++ xor vs ws
+xor-append [] [] vs ws e = refl
+xor-append [] (y ∷ ys) vs ws e = absurd (omega (arith, e))
+xor-append (x ∷ xs) [] vs ws e = absurd (omega (arith, e))
+xor-append (x ∷ xs) (y ∷ ys) vs ws e =
     let shorter : length xs ≡ length ys = omega (arith, e) in
-    rw (zip2-append xs ys vs ws shorter) refl
+    rw (xor-append xs ys vs ws shorter) refl
 
 pub length-xor : (xs ys : List ℕ) → length xs ≡ length ys → length (xor xs ys) ≡ length ys
 length-xor [] [] e = refl
@@ -55,7 +72,7 @@ xor_lanes-append f g n (suc (suc d)) long =
     let before : (j : ℕ) → j < suc d → length (f j) ≡ n = λ j h. long j (omega arith) in
     let rest = xor_lanes-append f g n (suc d) before in
     let beginning : length (xor_lanes f (suc d)) ≡ length (f (suc d)) = length-xor_lanes f n d before ∙ sym (long (suc d) (omega arith)) in
-    rw rest (zip2-append (xor_lanes f (suc d)) (f (suc d)) (xor_lanes g (suc d)) (g (suc d)) beginning)
+    rw rest (xor-append (xor_lanes f (suc d)) (f (suc d)) (xor_lanes g (suc d)) (g (suc d)) beginning)
 
 pub count_positive : (d : ℕ) → IsLaneCount d → 0 < d
 count_positive d (inl one) = omega arith

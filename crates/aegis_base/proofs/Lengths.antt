@@ -1,7 +1,6 @@
 -- The lengths of tags. A round returns 16 bytes for any input, so each row has 16 bytes after a lane's end, and a tag
 -- of n bytes has n bytes.
-use Rattle.std.proofs.Common.{◌≡◌, ◌∙◌, sym, ap, ℕ, zero, suc, ◌/◌, ◌%◌, ◌<◌, List, [], ◌∷◌, ◌++◌, length, drop, take, arith, rules, inl, inr}
-use Rattle.std.proofs.Math.Seq.{drop-append_seam, take-append_seam}
+use Rattle.std.proofs.Common.{◌≡◌, ◌∙◌, sym, ap, ℕ, zero, suc, ◌/◌, ◌%◌, ◌<◌, List, [], ◌∷◌, ◌++◌, length, arith, rules, inl, inr}
 use Rattle.std.proofs.lemmas.List.{length-append}
 use Rattle.std.proofs.lemmas.List.FromFn.{length-map-range_with_len}
 use Rattle.aegis_aes.specs.Block.{xor}
@@ -91,18 +90,6 @@ finalize-updated family s p q = update-updated family _ _
 pub length-lane_tag : (family : Family) (n : ℕ) (s : List (List ℕ)) → IsTagLength n → IsWhole family s → length (lane_tag family n s) ≡ n
 length-lane_tag family n s (inl e) whole = rw e whole.short
 length-lane_tag family n s (inr e) whole = rw e (omega (arith, length-append (low_tag family s) (high_tag family s), whole.low, whole.high))
-
--- equal tags of 32 bytes have equal halves
-pub tag-halves : (family : Family) (s t : List (List ℕ)) → IsWhole family s → IsWhole family t
-    → lane_tag family 32 s ≡ lane_tag family 32 t → (low_tag family s ≡ low_tag family t) × (high_tag family s ≡ high_tag family t)
-tag-halves family s t whole also e =
-    let beginning : (r : List (List ℕ)) → IsWhole family r → take 16 (low_tag family r ++ high_tag family r) ≡ low_tag family r =
-    λ r is. rw (← is.low) (take-append_seam (low_tag family r) (high_tag family r)) in
-    let back : (r : List (List ℕ)) → IsWhole family r → drop 16 (low_tag family r ++ high_tag family r) ≡ high_tag family r =
-    λ r is. rw (← is.low) (drop-append_seam (low_tag family r) (high_tag family r)) in (
-      sym (beginning s whole) ∙ ap (take 16) e ∙ beginning t also,
-      sym (back s whole) ∙ ap (drop 16) e ∙ back t also,
-    )
 
 lane_end-whole : (variant : Variant) (key nonce ad m : List ℕ) (j : ℕ) → IsWhole variant.family (lane_end variant key nonce ad m j)
 lane_end-whole variant key nonce ad m j =

@@ -1,78 +1,57 @@
 -- What the fold of the lanes' tags depends on, and the MAC from lanes that have taken in its input.
-use Rattle.std.proofs.Common.{◌≡◌, ◌∙◌, sym, ap, refl, ℕ, zero, suc, ◌+◌, ◌-◌, ◌*◌, ◌<◌, ◌≤◌, ◌⊎◌, List, [], ◌∷◌, ◌++◌, length, replicate, slice_index, arith, inl, inr}
+use Rattle.std.proofs.Common.{◌≡◌, ◌∙◌, sym, ap, refl, ℕ, zero, suc, ◌+◌, ◌-◌, ◌*◌, ◌<◌, ◌≤◌, ◌⊎◌, List, [], ◌∷◌, ◌++◌, length, map, replicate, slice_index, arith, inl, inr}
+use Rattle.std.specs.List.{concat, range_with_len}
 use Rattle.std.proofs.lemmas.List.{get_or-replicate, length-replicate}
 use Rattle.std.proofs.lemmas.Nat.{div-mul-add}
 use Rattle.aegis_aes.specs.Lanes.{IsLaneCount, xor_lanes}
-use Rattle.aegis_base.specs.Variant.{Family, Family128, Family256, Variant, rate}
-use Rattle.aegis_base.specs.Lane.{IsTagLength, finalize, high_tag, lane_tag, low_tag, short_tag, init, update}
+use Rattle.aegis_aes.specs.Block.{bytes_at}
+use Rattle.aegis_aes.proofs.Places.{get_or-bytes_at, length-bytes_at}
+use Rattle.aegis_base.specs.Variant.{Variant, rate}
+use Rattle.aegis_base.specs.Lane.{IsTagLength, finalize, lane_tag, init, update}
 use Rattle.aegis_base.specs.Laws.{AgreeInLane}
-use Rattle.aegis_base.specs.Mac.{fold, fold_long, fold_short, mac, mac_input, mac_lane, mac_tag, short_fold_turn, short_fold_turns}
+use Rattle.aegis_base.specs.Mac.{alone, first_folded, fold, mac, mac_input, mac_lane, mac_tag, tags_from}
 use Rattle.aegis_base.specs.Message.{after, after_all, block_count, share_at}
-use Rattle.aegis_base.proofs.LaneFacts.{count_positive}
-use Rattle.aegis_base.proofs.Lengths.{IsUpdated, IsWhole, after-updated, finalize-updated, finalize-whole, length-lane_tag, init-updated, update-updated, tag-halves}
+use Rattle.aegis_base.proofs.LaneFacts.{bytes_at-append, count_positive}
+use Rattle.aegis_base.proofs.Lengths.{IsUpdated, IsWhole, after-updated, finalize-updated, finalize-whole, length-lane_tag, init-updated}
 use Rattle.aegis_base.proofs.LaneIndependence.{after_all-in_lane}
 use Rattle.aegis_base.proofs.MessageFacts.{rate-positive, share_at-same}
 
--- ---- a fold depends only on the tags of the variant's own lanes
+-- ---- the lanes' tags, one after the other
 
-short_fold_turn-same : (family : Family) (d : ℕ) (f g : ℕ → List ℕ) (k : ℕ) (s : List (List ℕ)) → k < short_fold_turns family d
-    → ((j : ℕ) → j < d → f j ≡ g j) → short_fold_turn family f k s ≡ short_fold_turn family g k s
-short_fold_turn-same Family128 d f g k s low same =
-    rw (same (2 * k) (omega arith), same (2 * k + 1) (omega arith)) refl
-short_fold_turn-same Family256 d f g k s low same = rw (same (k + 1) (omega arith)) refl
+-- the tags from number a on, if each of n bytes lies in `bytes`
+tags-are : (t : ℕ → List ℕ) (bytes : List ℕ) (n a m : ℕ) → ((j : ℕ) → a ≤ j → j < a + m → bytes_at bytes (n * j) n ≡ t j)
+    → concat (map t (range_with_len a m)) ≡ bytes_at bytes (n * a) (m * n)
+unfolding bytes_at
+tags-are t bytes n a zero each = let none : 0 * n ≡ 0 = omega arith in rw none refl
+tags-are t bytes n a (suc m) each =
+    let rest = tags-are t bytes n (a + 1) m (λ j low high. each j (omega arith) (omega arith)) in
+    let next : n * (a + 1) ≡ n * a + n = omega arith in
+    let all : suc m * n ≡ n + m * n = omega arith in
+    rw (← each a (omega arith) (omega arith), rest, next, all) (bytes_at-append bytes (n * a) n (m * n))
 
-fold_short-same : (variant : Variant) (f g : ℕ → List ℕ) (s : List (List ℕ)) (k : ℕ) → k ≤ short_fold_turns variant.family variant.lanes
-    → ((j : ℕ) → j < variant.lanes → f j ≡ g j) → fold_short variant.family f s k ≡ fold_short variant.family g s k
-fold_short-same variant f g s zero low same = refl
-fold_short-same variant f g s (suc k) low same =
-    ap (short_fold_turn variant.family f k) (fold_short-same variant f g s k (omega arith) same)
-    ∙ short_fold_turn-same variant.family variant.lanes f g k (fold_short variant.family g s k) (omega arith) same
-
-fold_long-same : (variant : Variant) (f g low high : ℕ → List ℕ) (s : List (List ℕ)) (k : ℕ) → k ≤ variant.lanes - 1
-    → ((j : ℕ) → j < variant.lanes → f j ≡ low j) → ((j : ℕ) → j < variant.lanes → g j ≡ high j)
-    → fold_long variant.family f g s k ≡ fold_long variant.family low high s k
-fold_long-same variant f g low high s zero bound same also = refl
-fold_long-same variant f g low high s (suc k) bound same also =
-    rw (fold_long-same variant f g low high s k (omega arith) same also, same (k + 1) (omega arith), also (k + 1) (omega arith)) refl
-
--- lanes whose tags of 16 bytes are the same, with the same lane 0
-fold-short_tags : (variant : Variant) (f g : ℕ → List (List ℕ)) → f 0 ≡ g 0
-    → ((j : ℕ) → j < variant.lanes → short_tag variant.family (f j) ≡ short_tag variant.family (g j)) → fold variant 16 f ≡ fold variant 16 g
-fold-short_tags variant f g first same = grind (arith, fold_short-same)
-
--- lanes whose tags of 32 bytes have the same halves, with the same lane 0
-fold-long_tags : (variant : Variant) (f g : ℕ → List (List ℕ)) → f 0 ≡ g 0
-    → ((j : ℕ) → j < variant.lanes → low_tag variant.family (f j) ≡ low_tag variant.family (g j))
-    → ((j : ℕ) → j < variant.lanes → high_tag variant.family (f j) ≡ high_tag variant.family (g j)) → fold variant 32 f ≡ fold variant 32 g
-fold-long_tags variant f g first same also = grind (arith, fold_long-same)
-
-mac_tag-fold : (variant : Variant) (n : ℕ) (f g : ℕ → List (List ℕ)) → f 0 ≡ g 0 → fold variant n f ≡ fold variant n g
-    → mac_tag variant n f ≡ mac_tag variant n g
-unfolding mac_tag
-mac_tag-fold variant n f g first same = grind arith
+-- they depend only on the tags of the variant's own lanes
+tags-same : (f g : ℕ → List ℕ) (a n : ℕ) → ((j : ℕ) → a ≤ j → j < a + n → f j ≡ g j)
+    → concat (map f (range_with_len a n)) ≡ concat (map g (range_with_len a n))
+tags-same f g a zero same = refl
+tags-same f g a (suc n) same =
+    let rest = tags-same f g (a + 1) n (λ j low high. same j (omega arith) (omega arith)) in
+    rw (same a (omega arith) (omega arith), rest) refl
 
 -- lanes with the same lane 0 and the same tags have the same MAC
-pub mac_tag-by_tags : (variant : Variant) (n : ℕ) (f g : ℕ → List (List ℕ)) → IsTagLength n → f 0 ≡ g 0
-    → ((j : ℕ) → j < variant.lanes → IsWhole variant.family (f j)) → ((j : ℕ) → j < variant.lanes → IsWhole variant.family (g j))
+pub mac_tag-by_tags : (variant : Variant) (n : ℕ) (f g : ℕ → List (List ℕ)) → f 0 ≡ g 0
     → ((j : ℕ) → j < variant.lanes → lane_tag variant.family n (f j) ≡ lane_tag variant.family n (g j))
     → mac_tag variant n f ≡ mac_tag variant n g
-mac_tag-by_tags variant n f g (inl e) first whole also =
-    rw e (λ same. mac_tag-fold variant 16 f g first (fold-short_tags variant f g first same))
-mac_tag-by_tags variant n f g (inr e) first whole also =
-    rw e (λ same. mac_tag-fold variant 32 f g first (fold-long_tags variant f g first
-    (λ j h. (tag-halves variant.family (f j) (g j) (whole j h) (also j h) (same j h)).0)
-    (λ j h. (tag-halves variant.family (f j) (g j) (whole j h) (also j h) (same j h)).1)))
+unfolding mac_tag tags_from
+mac_tag-by_tags variant n f g first same =
+    let k = first_folded variant.family n in
+    let tags = tags-same (λ j. lane_tag variant.family n (f j)) (λ j. lane_tag variant.family n (g j)) k (variant.lanes - k) (λ j low high. same j (omega arith)) in
+    rw (first, tags) refl
 
 -- the same lanes have the same MAC
-pub mac_tag-same : (variant : Variant) (n : ℕ) (f g : ℕ → List (List ℕ)) → IsLaneCount variant.lanes → IsTagLength n
+pub mac_tag-same : (variant : Variant) (n : ℕ) (f g : ℕ → List (List ℕ)) → IsLaneCount variant.lanes
     → ((j : ℕ) → j < variant.lanes → f j ≡ g j) → mac_tag variant n f ≡ mac_tag variant n g
-mac_tag-same variant n f g count (inl e) same =
-    let first = same 0 (count_positive variant.lanes count) in
-    rw e (mac_tag-fold variant 16 f g first (fold-short_tags variant f g first (λ j h. ap (short_tag variant.family) (same j h))))
-mac_tag-same variant n f g count (inr e) same =
-    let first = same 0 (count_positive variant.lanes count) in
-    rw e (mac_tag-fold variant 32 f g first
-    (fold-long_tags variant f g first (λ j h. ap (low_tag variant.family) (same j h)) (λ j h. ap (high_tag variant.family) (same j h))))
+mac_tag-same variant n f g count same =
+    mac_tag-by_tags variant n f g (same 0 (count_positive variant.lanes count)) (λ j h. ap (lane_tag variant.family n) (same j h))
 
 -- ---- the MAC of given lanes
 
@@ -89,26 +68,22 @@ mac_tag-folded variant n lanes (inl one) more = absurd (more one)
 mac_tag-folded variant n lanes (inr (inl two)) more = rw two refl
 mac_tag-folded variant n lanes (inr (inr four)) more = rw four refl
 
--- of 16 bytes, with `tags` for the lanes' tags
-pub mac_tag_short : (variant : Variant) (number : ℕ) (lanes : ℕ → List (List ℕ)) (tags : ℕ → List ℕ) (folded ended : List (List ℕ))
-    → IsLaneCount variant.lanes → variant.lanes ≡ number → (number ≡ 1 → ⊥) → ((j : ℕ) → j < variant.lanes → tags j ≡ short_tag variant.family (lanes j))
-    → folded ≡ fold_short variant.family tags (lanes 0) (short_fold_turns variant.family variant.lanes) → ended ≡ finalize variant.family folded number 128
-    → short_tag variant.family ended ≡ mac_tag variant 16 lanes
-mac_tag_short variant number lanes tags folded ended count is more same fold end =
-    let read = fold_short-same variant tags (λ j. short_tag variant.family (lanes j)) (lanes 0) (short_fold_turns variant.family variant.lanes) (omega arith) same in
-    let several : variant.lanes ≡ 1 → ⊥ = λ one. more (sym is ∙ one) in
-    rw (end, fold, read, ← is) (mac_tag-folded variant 16 lanes count several)
-
--- of 32 bytes, with `low` and `high` for the halves of the lanes' tags
-pub mac_tag_long : (variant : Variant) (number : ℕ) (lanes : ℕ → List (List ℕ)) (low high : ℕ → List ℕ) (folded ended : List (List ℕ))
-    → IsLaneCount variant.lanes → variant.lanes ≡ number → (number ≡ 1 → ⊥) → ((j : ℕ) → j < variant.lanes → low j ≡ low_tag variant.family (lanes j))
-    → ((j : ℕ) → j < variant.lanes → high j ≡ high_tag variant.family (lanes j))
-    → folded ≡ fold_long variant.family low high (lanes 0) (variant.lanes - 1) → ended ≡ finalize variant.family folded number 256
-    → low_tag variant.family ended ++ high_tag variant.family ended ≡ mac_tag variant 32 lanes
-mac_tag_long variant number lanes low high folded ended count is more same also fold end =
-    let read = fold_long-same variant low high (λ j. low_tag variant.family (lanes j)) (λ j. high_tag variant.family (lanes j)) (lanes 0) (variant.lanes - 1) (omega arith) same also in
-    let several : variant.lanes ≡ 1 → ⊥ = λ one. more (sym is ∙ one) in
-    rw (end, fold, read, ← is) (mac_tag-folded variant 32 lanes count several)
+-- lane 0 after `turns` updates by the tags, which lie in `bytes` one after the other
+pub fold-is : (variant : Variant) (n : ℕ) (lanes : ℕ → List (List ℕ)) (bytes : List ℕ) (k turns : ℕ) (s : List (List ℕ))
+    → k ≡ first_folded variant.family n → turns * rate (alone variant) ≡ (variant.lanes - k) * n
+    → ((j : ℕ) → j < variant.lanes → bytes_at bytes (n * j) n ≡ lane_tag variant.family n (lanes j))
+    → ((x : List ℕ) → ((i : ℕ) → i < turns * rate (alone variant) → slice_index x i ≡ slice_index bytes (n * k + i)) → s ≡ after (alone variant) (lanes 0) 0 x turns)
+    → s ≡ fold variant n lanes
+unfolding tags_from
+fold-is variant n lanes bytes k turns s first whole each along =
+    let r : ℕ = rate (alone variant) in
+    let positive : 0 < r = rate-positive (alone variant) (inl refl) in
+    let x : List ℕ = tags_from variant n lanes k in
+    let are : x ≡ bytes_at bytes (n * k) ((variant.lanes - k) * n) =
+    tags-are (λ j. lane_tag variant.family n (lanes j)) bytes n k (variant.lanes - k) (λ j low high. each j (omega arith)) in
+    let long : length x ≡ turns * r = ap length are ∙ length-bytes_at bytes (n * k) ((variant.lanes - k) * n) ∙ sym whole in
+    let count : block_count (alone variant) (length x) ≡ turns = rw long (div-mul-add turns r (r - 1) (omega arith)) in
+    rw (← first, count) (along x (λ i low. ap (λ (xs : List ℕ). slice_index xs i) are ∙ get_or-bytes_at bytes (n * k) ((variant.lanes - k) * n) i 0 (omega arith)))
 
 -- ---- the MAC of an input
 
@@ -135,35 +110,14 @@ mac_input-none variant s j z a count inside zeros =
     rw (long, one, taken) refl
 
 -- the MAC, from the lanes after the input; p and q are the lengths in bits
-pub mac-is : (variant : Variant) (n : ℕ) (last ended : ℕ → List (List ℕ)) (key nonce x : List ℕ) (p q : ℕ) → IsLaneCount variant.lanes → IsTagLength n
+pub mac-is : (variant : Variant) (n : ℕ) (last ended : ℕ → List (List ℕ)) (key nonce x : List ℕ) (p q : ℕ) → IsLaneCount variant.lanes
     → ((j : ℕ) → j < variant.lanes → last j ≡ after_all variant (init variant key nonce j) j (mac_input variant x))
     → ((j : ℕ) → j < variant.lanes → ended j ≡ finalize variant.family (last j) p q) → p ≡ 8 * length x → q ≡ 8 * n
     → mac_tag variant n ended ≡ mac variant n key nonce x
 unfolding mac
-mac-is variant n last ended key nonce x p q count is absorbed end e f = grind (arith, mac_tag-same)
+mac-is variant n last ended key nonce x p q count absorbed end e f = grind (arith, mac_tag-same)
 
 -- ---- how long a MAC is
-
-fold_short-updated : (family : Family) (tags : ℕ → List ℕ) (s : List (List ℕ)) (k : ℕ) → IsUpdated family s
-    → IsUpdated family (fold_short family tags s k)
-fold_short-updated family tags s zero is = is
-fold_short-updated Family128 tags s (suc k) is =
-    update-updated Family128 (fold_short Family128 tags s k) (tags (2 * k) ∷ tags (2 * k + 1) ∷ [])
-fold_short-updated Family256 tags s (suc k) is = update-updated Family256 (fold_short Family256 tags s k) (tags (k + 1) ∷ [])
-
-fold_long-updated : (family : Family) (low high : ℕ → List ℕ) (s : List (List ℕ)) (k : ℕ) → IsUpdated family s
-    → IsUpdated family (fold_long family low high s k)
-fold_long-updated family low high s zero is = is
-fold_long-updated Family128 low high s (suc k) is =
-    update-updated Family128 (fold_long Family128 low high s k) (low (k + 1) ∷ high (k + 1) ∷ [])
-fold_long-updated Family256 low high s (suc k) is =
-    update-updated Family256 (update Family256 (fold_long Family256 low high s k) (low (k + 1) ∷ [])) (high (k + 1) ∷ [])
-
-fold-updated : (variant : Variant) (n : ℕ) (lanes : ℕ → List (List ℕ)) → IsTagLength n → IsUpdated variant.family (lanes 0)
-    → IsUpdated variant.family (fold variant n lanes)
-fold-updated variant n lanes (inl e) is = rw e (fold_short-updated variant.family (λ j. short_tag variant.family (lanes j)) (lanes 0) _ is)
-fold-updated variant n lanes (inr e) is =
-    rw e (fold_long-updated variant.family (λ j. low_tag variant.family (lanes j)) (λ j. high_tag variant.family (lanes j)) (lanes 0) (variant.lanes - 1) is)
 
 several-more : (d : ℕ) → (d ≡ 2) ⊎ (d ≡ 4) → d ≡ 1 → ⊥
 several-more d (inl two) one = omega arith
@@ -174,7 +128,7 @@ length-folded : (variant : Variant) (n : ℕ) (lanes : ℕ → List (List ℕ)) 
     → IsTagLength n → IsUpdated variant.family (lanes 0) → length (mac_tag variant n lanes) ≡ n
 length-folded variant n lanes count more is stepped =
     rw (← mac_tag-folded variant n lanes count more)
-    (length-lane_tag variant.family n _ is (finalize-whole variant.family (fold variant n lanes) variant.lanes (8 * n) (fold-updated variant n lanes is stepped)))
+    (length-lane_tag variant.family n _ is (finalize-whole variant.family (fold variant n lanes) variant.lanes (8 * n) (after-updated (alone variant) (lanes 0) 0 _ _ stepped)))
 
 length-mac_tag : (variant : Variant) (n : ℕ) (lanes : ℕ → List (List ℕ)) → IsLaneCount variant.lanes → IsTagLength n
     → IsWhole variant.family (lanes 0) → IsUpdated variant.family (lanes 0) → length (mac_tag variant n lanes) ≡ n
@@ -220,8 +174,7 @@ pub mac_of_tags : (variant : Variant) (n : ℕ) (key nonce x y : List ℕ) → I
 unfolding mac
 mac_of_tags variant n key nonce x y count is long agree same =
     let first = mac_lane-same variant n key nonce x y 0 count (count_positive variant.lanes count) long agree in
-    mac_tag-by_tags variant n (mac_lane variant n key nonce x) (mac_lane variant n key nonce y) is first
-    (λ j h. mac_lane-whole variant n key nonce x j) (λ j h. mac_lane-whole variant n key nonce y j) each
+    mac_tag-by_tags variant n (mac_lane variant n key nonce x) (mac_lane variant n key nonce y) first each
   where
     each : (j : ℕ) → j < variant.lanes → lane_tag variant.family n (mac_lane variant n key nonce x j) ≡ lane_tag variant.family n (mac_lane variant n key nonce y j)
     each zero h = ap (lane_tag variant.family n) (mac_lane-same variant n key nonce x y 0 count h long agree)

@@ -5,7 +5,6 @@
 mod chunks;
 mod constants;
 mod error;
-mod lane_block;
 pub mod laws;
 mod saved;
 mod state;
@@ -14,7 +13,6 @@ mod vectors;
 pub use chunks::{chunks_len, counted, counted_within};
 pub use constants::{C0, C1, bit_lengths};
 pub use error::{Error, MAX_AEAD_BYTES, Tag};
-pub use lane_block::block_in_all_lanes;
 pub use saved::{SavedLanes, SavedRows};
 pub use state::LaneState;
 pub use vectors::slices;

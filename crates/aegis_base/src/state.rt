@@ -5,10 +5,9 @@ ghost use Rattle.aegis_aes.specs.Block.{IsSameBefore, IsSameFrom, block_at, xor}
 ghost use Rattle.aegis_aes.specs.Lanes.{IsLaneCount, context, xor_lanes};
 ghost use Rattle.aegis_base.specs.Variant.{Variant, cipher_name, key_length, module_name, rate, width};
 ghost use Rattle.aegis_base.specs.Lane.{finalize, first_blocks, high_tag, keystream_blocks, lane_tag, last_block, last_input, low_tag, block_in, short_tag, init, init_turn, init_turns, update, times};
-ghost use Rattle.aegis_base.specs.Mac.{fold_long, fold_short, mac_tag, short_fold_turn, short_fold_turns, update_by_two};
+ghost use Rattle.aegis_base.specs.Mac.{alone};
 ghost use Rattle.aegis_base.specs.Message.{share_at};
 
-use crate::lane_block::{block_in_all_lanes, block_of_lane};
 use aegis_aes::{AesBlock, Row};
 
 /// The lanes of one variant, side by side.
@@ -17,8 +16,8 @@ use aegis_aes::{AesBlock, Row};
 /// as if it ran alone. A state also counts its updates since initialization.
 ///
 /// A family implements the steps of the AEGIS specification, and initialization, the end and the tags are composed of
-/// them here. The engine uses only `RATE`, `FIT_REGISTERS`, the names, `new`, `absorb`, `xor_keystream`, `finalize`,
-/// `zeros`, the two tags and the two MAC tags.
+/// them here. The engine uses only `RATE`, `FIT_REGISTERS`, the names, `new`, `absorb`, `absorb_in_each`,
+/// `xor_keystream`, `finalize`, `zeros` and the tags.
 pub trait LaneState: Copy {
     /// The type of a row: one block of each lane.
     type Row: Row;
@@ -26,11 +25,6 @@ pub trait LaneState: Copy {
     /// Whether the rows fit a processor's registers. If they do not, an update reads and writes them where they lie. No
     /// result depends on it.
     const FIT_REGISTERS: bool;
-
-    /// The number of turns of the fold of the lanes' tags of 16 bytes.
-    const SHORT_FOLD_TURNS: usize;
-
-    ghost SHORT_FOLD_TURNS: { ℕ };
 
     /// The length of a rate block, which all lanes together take in by one update: at most 128 bytes.
     const RATE: usize;
@@ -98,6 +92,15 @@ pub trait LaneState: Copy {
         ensures lanes { (j : ℕ) → j < VARIANT.lanes
             → lane self.new j
             ≡ update VARIANT.family (lane self.old j) (share_at VARIANT j bytes.now at) }
+        ensures updates { updates self.new ≡ updates self.old + 1 };
+
+    /// Updates each lane by the same blocks: the rate block of one lane alone that begins at place `at` of `bytes`.
+    fn absorb_in_each(&mut self, bytes: &[u8], at: usize)
+        requires within { at + rate (alone VARIANT) ≤ length bytes.now }
+        requires countable { updates self.old + 1 < 2 ^ 64 }
+        ensures lanes { (j : ℕ) → j < VARIANT.lanes
+            → lane self.new j
+            ≡ update VARIANT.family (lane self.old j) (share_at (alone VARIANT) 0 bytes.now at) }
         ensures updates { updates self.new ≡ updates self.old + 1 };
 
     /// Xors the rate block of `buffer` that begins at place `at` with the lanes' keystream (AEGIS, Enc). The lanes are
@@ -173,95 +176,7 @@ pub trait LaneState: Copy {
         (low.xor_of_lanes(), high.xor_of_lanes())
     }
 
-    /// Updates the lanes by one turn of the fold of the lanes' tags of 16 bytes into lane 0: in the family 128 an
-    /// update by the tags of two lanes, beginning with lanes 0 and 1, and in the family 256 by the tag of one lane,
-    /// beginning with lane 1. Only lane 0 is used afterwards.
-    fn short_fold_turn(&mut self, tags: Self::Row, turn: usize)
-        requires within { turn < SHORT_FOLD_TURNS }
-        requires countable { updates self.old + 1 < 2 ^ 64 }
-        ensures first { lane self.new 0
-            ≡ short_fold_turn VARIANT.family (Self.Row.block tags) turn (lane self.old 0) }
-        ensures updates { updates self.new ≡ updates self.old + 1 };
-
-    /// Updates the lanes by two more blocks: one update by both in the family 128, or an update by each in the family
-    /// 256.
-    fn update_by_two(&mut self, first: Self::Row, second: Self::Row)
-        requires { updates self.old + 2 < 2 ^ 64 }
-        ensures lanes { (j : ℕ) → j < VARIANT.lanes
-            → lane self.new j
-            ≡ update_by_two VARIANT.family (lane self.old j) (Self.Row.block first j)
-            (Self.Row.block second j) }
-        ensures updates { updates self.new ≤ updates self.old + 2 };
-
-    /// Returns the lanes after the fold of their tags of 16 bytes into lane 0.
-    final fn fold_short(self, tags: Self::Row) -> Self
-        requires { updates self + 8 < 2 ^ 64 }
-        ensures first { lane result 0
-            ≡ fold_short VARIANT.family (Self.Row.block tags) (lane self 0)
-            (short_fold_turns VARIANT.family VARIANT.lanes) }
-        ensures updates { updates result ≤ updates self + 8 }
-    {
-        let mut state = self;
-        for turn in 0..Self::SHORT_FOLD_TURNS {
-            state.short_fold_turn(tags, turn);
-        }
-        state
-    }
-
-    /// Returns the lanes after the fold of their tags of 32 bytes into lane 0, beginning with lane 1: each as its low
-    /// half and its high half.
-    final fn fold_long(self, low: Self::Row, high: Self::Row) -> Self
-        requires { updates self + 8 < 2 ^ 64 }
-        ensures first { lane result 0
-            ≡ fold_long VARIANT.family (Self.Row.block low) (Self.Row.block high) (lane self 0)
-            (VARIANT.lanes - 1) }
-        ensures updates { updates result ≤ updates self + 8 }
-    {
-        let mut state = self;
-        for turn in 0..Self::Row::LANES - 1 {
-            let next_low = block_in_all_lanes(low, turn + 1);
-            let next_high = block_in_all_lanes(high, turn + 1);
-            state.update_by_two(next_low, next_high);
-        }
-        state
-    }
-
-    /// Returns the MAC of 16 bytes, from the lanes after their first end: the tag of a single lane, and with more lanes
-    /// the tag of lane 0 after the fold and a second end, with the number of lanes and the MAC's 128 bits.
-    #[tactic(auto, using(crate::proofs::MacFacts::mac_tag_short, crate::proofs::LaneFacts::count_positive))]
-    final fn short_mac_tag(self) -> AesBlock
-        requires { updates self + 16 < 2 ^ 64 }
-        ensures { result ≡ mac_tag VARIANT 16 (lane self) }
-    {
-        let lanes = Self::Row::LANES;
-        if lanes == 1 {
-            return self.short_tag();
-        }
-        let folded = self.fold_short(self.short_tags());
-        let ended = folded.finalize(lanes as u64, 128);
-        block_of_lane(ended.short_tags(), 0)
-    }
-
-    /// Returns the halves of the MAC of 32 bytes, low half first, in the same way, with the MAC's 256 bits.
-    #[tactic(auto, using(crate::proofs::MacFacts::mac_tag_long, crate::proofs::LaneFacts::count_positive))]
-    final fn long_mac_tag(self) -> (AesBlock, AesBlock)
-        requires { updates self + 16 < 2 ^ 64 }
-        ensures { result.0 ++ result.1 ≡ mac_tag VARIANT 32 (lane self) }
-    {
-        let lanes = Self::Row::LANES;
-        if lanes == 1 {
-            return self.long_tag();
-        }
-        let (low, high) = self.long_tags();
-        let ended = self.fold_long(low, high).finalize(lanes as u64, 256);
-        let (low, high) = ended.long_tags();
-        (block_of_lane(low, 0), block_of_lane(high, 0))
-    }
-
     ghost lanes_are: { VARIANT.lanes ≡ Self.Row.LANES };
-
-    ghost short_fold_turns_are: { SHORT_FOLD_TURNS
-        ≡ short_fold_turns VARIANT.family VARIANT.lanes };
 
     ghost one_two_or_four: { IsLaneCount VARIANT.lanes };
 

@@ -9,5 +9,5 @@ returns g c key nonce x stands =
     let L = g.S.LaneState in
     let is = rw (← c.self.view_is) at stands in
     c.folded_tag.ensures
-    ∙ mac-is L.VARIANT g.row.TAG_BYTES (L.lane c.input_lanes.result) (L.lane c.finalize-end.result) key nonce x _ _ g.met.S.LaneState.one_two_or_four c.requires.tag_bytes
+    ∙ mac-is L.VARIANT g.row.TAG_BYTES (L.lane c.input_lanes.result) (L.lane c.finalize-end.result) key nonce x _ _ g.met.S.LaneState.one_two_or_four
     (c.input_lanes.ensures.lanes key nonce x stands) c.finalize-end.ensures.lanes (ap (λ (n : ℕ). 8 * n) is.1) refl
