@@ -2,12 +2,12 @@
 use Rattle.std.proofs.Common.{◌≡◌, ◌∙◌, sym, ap, refl, ℕ, ◌+◌, ◌-◌, ◌*◌, ◌/◌, ◌%◌, ◌<◌, ◌≤◌, ⊎_elim, List, length, slice_index, arith}
 use Rattle.std.proofs.lemmas.Bool.{cases_lt}
 use Rattle.std.proofs.lemmas.List.{get_or_past}
-use Rattle.std.proofs.lemmas.Nat.{div-add-mod', div-mul-add, mod-mul-add, mod_below}
+use Rattle.std.proofs.lemmas.Nat.{div-add-mod', div-mul-add, mod-mul-add}
 use Rattle.aegis_aes.specs.Lanes.{IsLaneCount}
 use Rattle.aegis_base.specs.Variant.{Variant, rate}
 use Rattle.aegis_base.specs.Lane.{update}
 use Rattle.aegis_base.specs.Message.{after, after_all, keystream_byte, share_at, keystream_byte_along}
-use Rattle.aegis_base.specs.Context.{IsAlong, IsUnopened}
+use Rattle.aegis_base.specs.Context.{HasFrom, IsAlong}
 use Rattle.aegis_base.proofs.MessageFacts.{after-more, after-same, block_count-part, block_count-whole, keystream_byte-periodic, keystream_byte-same, rate-positive, share_at-same}
 
 -- ---- one rate block
@@ -34,55 +34,55 @@ pub along-same : (variant : Variant) (lanes here : ℕ → List (List ℕ)) (blo
     → ((k : ℕ) → k < t → slice_index x k ≡ slice_index y k) → IsAlong variant lanes here block x t → IsAlong variant lanes here block y t
 along-same variant lanes here block x y t same on = grind (arith, div-add-mod', after-same)
 
--- n more bytes of x are kept in the open block, which changes from `block` to `next`
-pub record IsKept (variant : Variant) (lanes here : ℕ → List (List ℕ)) (block next x : List ℕ) (t n : ℕ) : Type 0 where
-  pub along : IsAlong variant lanes here block x t
-  pub kept : (k : ℕ) → k < t % rate variant → slice_index next k ≡ slice_index block k
-  pub taken : (k : ℕ) → k < n → slice_index next (t % rate variant + k) ≡ slice_index x (t + k)
+-- n more bytes end in the rate block of r bytes that is open, or at its end
+pub open-end : (t n r : ℕ) → t % r + n < r → ((t + n) / r ≡ t / r) × ((t + n) % r ≡ t % r + n)
+open-end t n r low =
+    let whole : t / r * r + t % r ≡ t = div-add-mod' t r in
+    let place : t + n ≡ t / r * r + (t % r + n) = omega arith in
+    (ap (λ (m : ℕ). m / r) place ∙ div-mul-add (t / r) r (t % r + n) low, ap (λ (m : ℕ). m % r) place ∙ mod-mul-add (t / r) r (t % r + n) low)
 
-module _ (variant : Variant) (lanes here : ℕ → List (List ℕ)) (block next x : List ℕ) (t n : ℕ)
-    (on : IsKept variant lanes here block next x t n) where
-  kept-reads : (k : ℕ) → k < t % rate variant + n → slice_index next k ≡ slice_index x (t / rate variant * rate variant + k)
+pub full-end : (t n r : ℕ) → 0 < r → t % r + n ≡ r → ((t + n) / r ≡ t / r + 1) × ((t + n) % r ≡ 0)
+full-end t n r positive full =
+    let whole : t / r * r + t % r ≡ t = div-add-mod' t r in
+    let place : t + n ≡ (t / r + 1) * r + 0 = omega arith in
+    (ap (λ (m : ℕ). m / r) place ∙ div-mul-add (t / r + 1) r 0 positive, ap (λ (m : ℕ). m % r) place ∙ mod-mul-add (t / r + 1) r 0 positive)
+
+-- the bytes p are kept in the open block after t bytes, with rate blocks of r bytes: it changes from `block` to `next`
+pub record IsKept (r : ℕ) (block next p : List ℕ) (t : ℕ) : Type 0 where
+  pub kept : (k : ℕ) → k < t % r → slice_index next k ≡ slice_index block k
+  pub taken : (k : ℕ) → k < length p → slice_index next (t % r + k) ≡ slice_index p k
+
+module _ (variant : Variant) (lanes here : ℕ → List (List ℕ)) (block next x p : List ℕ) (t : ℕ)
+    (on : IsAlong variant lanes here block x t) (has : HasFrom x t p) (keeps : IsKept (rate variant) block next p t) where
+  kept-reads : (k : ℕ) → k < t % rate variant + length p → slice_index next k ≡ slice_index x (t / rate variant * rate variant + k)
   kept-reads k low =
       let whole : t / rate variant * rate variant + t % rate variant ≡ t = div-add-mod' t (rate variant) in
       ⊎_elim
-      (λ beginning. on.kept k beginning ∙ on.along.open_block k beginning)
+      (λ beginning. keeps.kept k beginning ∙ on.open_block k beginning)
       (λ back.
       let place : t % rate variant + (k - t % rate variant) ≡ k = omega arith in
       let there : t + (k - t % rate variant) ≡ t / rate variant * rate variant + k = omega arith in
-      ap (slice_index next) (sym place) ∙ on.taken (k - t % rate variant) (omega arith) ∙ ap (slice_index x) there)
+      ap (slice_index next) (sym place) ∙ keeps.taken (k - t % rate variant) (omega arith) ∙ sym (has (k - t % rate variant) (omega arith)) ∙ ap (slice_index x) there)
       (cases_lt k (t % rate variant))
 
   -- they leave the rate block open
-  pub along-open : t % rate variant + n < rate variant → IsAlong variant lanes here next x (t + n)
+  pub along-open : t % rate variant + length p < rate variant → IsAlong variant lanes here next x (t + length p)
   along-open low =
-      let whole : t / rate variant * rate variant + t % rate variant ≡ t = div-add-mod' t (rate variant) in
-      let place : t + n ≡ t / rate variant * rate variant + (t % rate variant + n) = omega arith in
-      let quotient : (t + n) / rate variant ≡ t / rate variant =
-      ap (λ (m : ℕ). m / rate variant) place ∙ div-mul-add (t / rate variant) (rate variant) (t % rate variant + n) low in
-      let rest : (t + n) % rate variant ≡ t % rate variant + n =
-      ap (λ (m : ℕ). m % rate variant) place ∙ mod-mul-add (t / rate variant) (rate variant) (t % rate variant + n) low in
-      record {
-        whole = λ j inside. rw quotient (on.along.whole j inside);
-        open_block = λ k h. rw quotient (kept-reads k (omega arith));
-      }
+      let end = open-end t (length p) (rate variant) low in
+      let rest = end.1 in
+      record { whole = λ j inside. rw end.0 (on.whole j inside); open_block = λ k h. rw end.0 (kept-reads k (omega arith)) }
 
   -- they fill the rate block, which is taken in: the lanes become `there`
-  pub along-full : (there : ℕ → List (List ℕ)) (last : List ℕ) → IsLaneCount variant.lanes → t % rate variant + n ≡ rate variant
+  pub along-full : (there : ℕ → List (List ℕ)) (last : List ℕ) → IsLaneCount variant.lanes → t % rate variant + length p ≡ rate variant
       → ((j : ℕ) → j < variant.lanes → there j ≡ update variant.family (here j) (share_at variant j next 0))
-      → IsAlong variant lanes there last x (t + n)
+      → IsAlong variant lanes there last x (t + length p)
   along-full there last count full stepped =
-      let positive = rate-positive variant count in
-      let whole : t / rate variant * rate variant + t % rate variant ≡ t = div-add-mod' t (rate variant) in
-      let place : t + n ≡ (t / rate variant + 1) * rate variant + 0 = omega arith in
-      let quotient : (t + n) / rate variant ≡ t / rate variant + 1 =
-      ap (λ (m : ℕ). m / rate variant) place ∙ div-mul-add (t / rate variant + 1) (rate variant) 0 positive in
-      let rest : (t + n) % rate variant ≡ 0 =
-      ap (λ (m : ℕ). m % rate variant) place ∙ mod-mul-add (t / rate variant + 1) (rate variant) 0 positive in
+      let end = full-end t (length p) (rate variant) (rate-positive variant count) full in
+      let rest = end.1 in
       record {
         whole = λ j inside.
-            rw quotient (stepped j inside
-            ∙ block-lane variant lanes here x (t / rate variant) on.along.whole next 0 j inside
+            rw end.0 (stepped j inside
+            ∙ block-lane variant lanes here x (t / rate variant) on.whole next 0 j inside
             (λ k h. let e : 0 + k ≡ k = omega arith in rw e (kept-reads k (omega arith))));
         open_block = λ k h. absurd (omega arith);
       }
@@ -96,47 +96,23 @@ along-byte variant lanes here block x t k count on low =
     let place : t + k ≡ t / rate variant * rate variant + (t % rate variant + k) = omega arith in
     rw place (block-byte variant lanes here x (t / rate variant) on.whole (t % rate variant + k) count low)
 
--- ---- whole rate blocks
+-- ---- a whole rate block
 
--- n rate blocks of r bytes follow t bytes
-module _ (t n r : ℕ) (positive : 0 < r) (unopened : IsUnopened t n r) where
-  pub whole-quotient : (t + n * r) / r ≡ t / r + n
-  whole-quotient =
-      let whole : t / r * r + t % r ≡ t = div-add-mod' t r in
-      let rest : t % r < r = mod_below t r positive in
-      let place : t + n * r ≡ (t / r + n) * r + t % r = omega arith in
-      ap (λ (m : ℕ). m / r) place ∙ div-mul-add (t / r + n) r (t % r) rest
-
-  pub whole-rest : (t + n * r) % r ≡ t % r
-  whole-rest =
-      let whole : t / r * r + t % r ≡ t = div-add-mod' t r in
-      let rest : t % r < r = mod_below t r positive in
-      let place : t + n * r ≡ (t / r + n) * r + t % r = omega arith in
-      ap (λ (m : ℕ). m % r) place ∙ mod-mul-add (t / r + n) r (t % r) rest
-
-  pub whole-place : (k : ℕ) → k < n * r → t / r * r + k ≡ t + k
-  whole-place k low =
-      let whole : t / r * r + t % r ≡ t = div-add-mod' t r in
-      let some : 0 < n = ⊎_elim (λ (none : n < 1). let zero : n * r ≡ 0 * r = ap (λ (m : ℕ). m * r) (omega arith) in absurd (omega arith)) (λ (h : 1 ≤ n). omega arith) (cases_lt n 1) in
-      let full = unopened some in omega arith
-
-pub along-whole : (variant : Variant) (lanes here there : ℕ → List (List ℕ)) (block x : List ℕ) (t n : ℕ) → IsLaneCount variant.lanes
-    → IsUnopened t n (rate variant) → IsAlong variant lanes here block x t
-    → ((j : ℕ) → j < variant.lanes → there j ≡ after variant (lanes j) j x (t / rate variant + n))
-    → IsAlong variant lanes there block x (t + n * rate variant)
-along-whole variant lanes here there block x t n count unopened on stepped =
-    let positive = rate-positive variant count in
-    let quotient = whole-quotient t n (rate variant) positive unopened in
-    let rest = whole-rest t n (rate variant) positive unopened in
+-- while none is open, the lanes take in the one that begins at place a of other bytes
+pub along-block : (variant : Variant) (lanes here there : ℕ → List (List ℕ)) (block last x bytes : List ℕ) (t a : ℕ) → IsLaneCount variant.lanes
+    → t % rate variant ≡ 0 → IsAlong variant lanes here block x t
+    → ((j : ℕ) → j < variant.lanes → there j ≡ update variant.family (here j) (share_at variant j bytes a))
+    → ((k : ℕ) → k < rate variant → slice_index bytes (a + k) ≡ slice_index x (t + k))
+    → IsAlong variant lanes there last x (t + rate variant)
+along-block variant lanes here there block last x bytes t a count none on stepped same =
+    let whole : t / rate variant * rate variant + t % rate variant ≡ t = div-add-mod' t (rate variant) in
+    let end = full-end t (rate variant) (rate variant) (rate-positive variant count) (omega arith) in
+    let rest = end.1 in
     record {
-      whole = λ j inside. rw quotient (stepped j inside);
-      open_block = λ k h.
-          ⊎_elim
-          (λ (none : n < 1). let zero : n ≡ 0 = omega arith in
-          let same : t / rate variant + n ≡ t / rate variant = omega arith in
-          rw (quotient, same) (on.open_block k (rw rest at h)))
-          (λ (some : 1 ≤ n). let full = unopened (omega arith) in absurd (omega arith))
-          (cases_lt n 1);
+      whole = λ j inside.
+          rw end.0 (stepped j inside ∙ block-lane variant lanes here x (t / rate variant) on.whole bytes a j inside
+          (λ k low. same k low ∙ ap (slice_index x) (omega arith)));
+      open_block = λ k h. absurd (omega arith);
     }
 
 -- ---- the end of a run

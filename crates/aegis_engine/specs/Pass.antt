@@ -1,6 +1,8 @@
 -- The bytes that the lanes take in as a buffer is xored with the keystream, and their ciphertext.
 use Rattle.std.specs.Prelude.{ℕ, List, length, replicate}
 use Rattle.aegis_aes.specs.Block.{xor}
+use Rattle.aegis_base.specs.Context.{Encrypts, Held, Takes}
+use Rattle.aegis_base.specs.Variant.{Variant}
 use Rattle.aegis_engine.specs.declared.pass.Pass.{Pass}
 use Rattle.aegis_engine.specs.declared.pass.Pass.TheVariants.{Seal, Open, Keystream}
 
@@ -15,3 +17,8 @@ abbrev pub sealed : Pass → List ℕ → List ℕ → List ℕ
 sealed Seal old new = new
 sealed Open old new = old
 sealed Keystream old new = xor old new
+
+-- from `old` to `new`, a pass has processed `source`, which became `out`
+pub record IsPassed (variant : Variant) (old new : Held) (pass : Pass) (source out : List ℕ) : Type 0 where
+  pub takes : Takes variant old new (absorbed pass source out)
+  pub encrypts : Encrypts variant old (absorbed pass source out) (sealed pass source out)

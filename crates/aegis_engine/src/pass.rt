@@ -2,15 +2,15 @@
 //!
 //! Sealing, opening and the xor with a keystream are one pass: each byte of a buffer is xored with the keystream, and
 //! the lanes take in the bytes before the xor (sealing), the bytes after it (opening), or zeros (a keystream).
-//! Associated data and the input of a MAC are taken in without a buffer. In contracts, `x` is the whole input of the
-//! context: the lanes have taken in its first `total` bytes, and a call takes in the bytes after them.
+//! Associated data and the input of a MAC are taken in without a buffer. In contracts, the context has taken in `total`
+//! bytes before a call.
 
 ghost use Rattle.std.specs.Prelude.{◌≡◌, ℕ, ◌+◌, ◌*◌, ◌/◌, ◌%◌, ◌^◌, ◌<◌, ◌≤◌, bit_xor, length, List, slice_index, replicate};
-ghost use Rattle.aegis_aes.specs.Block.{IsSameBefore, IsSameFrom};
+ghost use Rattle.aegis_aes.specs.Block.{IsSameBefore, IsSameFrom, bytes_at};
 ghost use Rattle.aegis_base.specs.Lane.{update};
-ghost use Rattle.aegis_base.specs.Message.{keystream_byte, share_at, keystream_byte_along};
-ghost use Rattle.aegis_base.specs.Context.{IsAlong, IsUnopened};
-ghost use Rattle.aegis_engine.specs.Pass.{absorbed};
+ghost use Rattle.aegis_base.specs.Message.{keystream_byte, share_at};
+ghost use Rattle.aegis_base.specs.Context.{IsUnopened, Takes, held_by};
+ghost use Rattle.aegis_engine.specs.Pass.{IsPassed, absorbed};
 
 use aegis_base::LaneState;
 
@@ -76,12 +76,10 @@ fn xor_block<S: LaneState>(state: S, buffer: &mut [u8], at: usize)
 fn xor_part<S: LaneState>(state: &S, total: u64, buffer: &mut [u8], at: usize, count: usize)
     requires within { at + count ≤ length buffer.old }
     requires one_block { total % S.RATE + count ≤ S.RATE }
-    ensures written { (lanes : ℕ → List (List ℕ)) (block x : List ℕ)
-        → IsAlong S.VARIANT lanes (S.lane state.now) block x total
-        → (k : ℕ) → k < count
+    ensures written { (k : ℕ) → k < count
         → slice_index buffer.new (at + k)
         ≡ bit_xor (slice_index buffer.old (at + k))
-        (keystream_byte_along S.VARIANT lanes x (total + k)) }
+        (keystream_byte S.VARIANT (S.lane state.now) (total % S.RATE + k)) }
     ensures below { IsSameBefore at buffer.old buffer.new }
     ensures above { IsSameFrom (at + count) buffer.old buffer.new }
 {
@@ -106,13 +104,11 @@ pub fn absorb_part<S: LaneState>(
     requires within { at + count ≤ length bytes.now }
     requires one_block { total % S.RATE + count ≤ S.RATE }
     requires countable { S.updates state.old + count < 2 ^ 64 }
-    ensures along { (lanes : ℕ → List (List ℕ)) (x : List ℕ)
-        → IsAlong S.VARIANT lanes (S.lane state.old) block.old x total
-        → ((k : ℕ) → k < count
-        → slice_index x (total + k) ≡ slice_index bytes.now (at + k))
-        → IsAlong S.VARIANT lanes (S.lane state.new) block.new x (total + count) }
-    ensures updates { S.updates state.new + total / S.RATE
-        ≡ S.updates state.old + (total + count) / S.RATE }
+    ensures taken { (ad_bytes : ℕ) → Takes S.VARIANT
+        (held_by S.VARIANT (S.lane state.old) (S.updates state.old) block.old ad_bytes total)
+        (held_by S.VARIANT (S.lane state.new) (S.updates state.new) block.new ad_bytes
+        (total + count))
+        (bytes_at bytes.now at count) }
     ensures few { S.updates state.new ≤ S.updates state.old + count }
 {
     let place = (total % S::RATE as u64) as usize;
@@ -136,21 +132,13 @@ pub fn pass_part<S: LaneState>(
     requires within { at + count ≤ length buffer.old }
     requires one_block { total % S.RATE + count ≤ S.RATE }
     requires countable { S.updates state.old + count < 2 ^ 64 }
-    ensures along { (lanes : ℕ → List (List ℕ)) (x : List ℕ)
-        → IsAlong S.VARIANT lanes (S.lane state.old) block.old x total
-        → ((k : ℕ) → k < count
-        → slice_index x (total + k) ≡ slice_index (absorbed pass buffer.old buffer.new) (at + k))
-        → IsAlong S.VARIANT lanes (S.lane state.new) block.new x (total + count) }
-    ensures written { (lanes : ℕ → List (List ℕ)) (x : List ℕ)
-        → IsAlong S.VARIANT lanes (S.lane state.old) block.old x total
-        → (k : ℕ) → k < count
-        → slice_index buffer.new (at + k)
-        ≡ bit_xor (slice_index buffer.old (at + k))
-        (keystream_byte_along S.VARIANT lanes x (total + k)) }
+    ensures passed { (ad_bytes : ℕ) → IsPassed S.VARIANT
+        (held_by S.VARIANT (S.lane state.old) (S.updates state.old) block.old ad_bytes total)
+        (held_by S.VARIANT (S.lane state.new) (S.updates state.new) block.new ad_bytes
+        (total + count))
+        pass (bytes_at buffer.old at count) (bytes_at buffer.new at count) }
     ensures below { IsSameBefore at buffer.old buffer.new }
     ensures above { IsSameFrom (at + count) buffer.old buffer.new }
-    ensures updates { S.updates state.new + total / S.RATE
-        ≡ S.updates state.old + (total + count) / S.RATE }
     ensures few { S.updates state.new ≤ S.updates state.old + count }
 {
     if count == 0 {
@@ -227,12 +215,12 @@ fn pass_block<S: LaneState>(before: S, state: &mut S, pass: Pass, buffer: &mut [
 pub fn absorb_whole<S: LaneState>(state: S, bytes: &[u8], at: usize, count: usize) -> S
     requires within { at + count * S.RATE ≤ length bytes.now }
     requires countable { S.updates state + count < 2 ^ 64 }
-    ensures along { (lanes : ℕ → List (List ℕ)) (block x : List ℕ) (total : ℕ)
-        → IsUnopened total count S.RATE
-        → IsAlong S.VARIANT lanes (S.lane state) block x total
-        → ((k : ℕ) → k < count * S.RATE
-        → slice_index x (total + k) ≡ slice_index bytes.now (at + k))
-        → IsAlong S.VARIANT lanes (S.lane result) block x (total + count * S.RATE) }
+    ensures taken { (block : List ℕ) (ad_bytes total : ℕ) → IsUnopened total count S.RATE
+        → Takes S.VARIANT
+        (held_by S.VARIANT (S.lane state) (S.updates state) block ad_bytes total)
+        (held_by S.VARIANT (S.lane result) (S.updates result) block ad_bytes
+        (total + count * S.RATE))
+        (bytes_at bytes.now at (count * S.RATE)) }
     ensures updates { S.updates result ≡ S.updates state + count }
 {
     let rate = S::RATE;
@@ -255,21 +243,12 @@ pub fn pass_whole<S: LaneState>(
 ) -> S
     requires within { at + count * S.RATE ≤ length buffer.old }
     requires countable { S.updates state + count < 2 ^ 64 }
-    ensures along { (lanes : ℕ → List (List ℕ)) (block x : List ℕ) (total : ℕ)
-        → IsUnopened total count S.RATE
-        → IsAlong S.VARIANT lanes (S.lane state) block x total
-        → ((k : ℕ) → k < count * S.RATE
-        → slice_index x (total + k) ≡ slice_index (absorbed pass buffer.old buffer.new) (at + k))
-        → IsAlong S.VARIANT lanes (S.lane result) block x (total + count * S.RATE) }
-    ensures written { (lanes : ℕ → List (List ℕ)) (block x : List ℕ) (total : ℕ)
-        → IsUnopened total count S.RATE
-        → IsAlong S.VARIANT lanes (S.lane state) block x total
-        → ((k : ℕ) → k < count * S.RATE
-        → slice_index x (total + k) ≡ slice_index (absorbed pass buffer.old buffer.new) (at + k))
-        → (k : ℕ) → k < count * S.RATE
-        → slice_index buffer.new (at + k)
-        ≡ bit_xor (slice_index buffer.old (at + k))
-        (keystream_byte_along S.VARIANT lanes x (total + k)) }
+    ensures passed { (block : List ℕ) (ad_bytes total : ℕ) → IsUnopened total count S.RATE
+        → IsPassed S.VARIANT
+        (held_by S.VARIANT (S.lane state) (S.updates state) block ad_bytes total)
+        (held_by S.VARIANT (S.lane result) (S.updates result) block ad_bytes
+        (total + count * S.RATE))
+        pass (bytes_at buffer.old at (count * S.RATE)) (bytes_at buffer.new at (count * S.RATE)) }
     ensures below { IsSameBefore at buffer.old buffer.new }
     ensures above { IsSameFrom (at + count * S.RATE) buffer.old buffer.new }
     ensures updates { S.updates result ≡ S.updates state + count }

@@ -1,12 +1,13 @@
-use Rattle.std.proofs.Common.{◌≡◌, ℕ, ◌+◌, ◌*◌, ◌<◌, List, slice_index}
-use Rattle.aegis_base.specs.Message.{after}
+use Rattle.std.proofs.Common.{◌≡◌, ℕ, ◌+◌, ◌*◌, List}
+use Rattle.aegis_aes.specs.Block.{bytes_at}
+use Rattle.aegis_base.specs.Context.{IsUnopened, Takes, held_by}
 use Rattle.aegis_engine.proofs.pass.absorb_whole.Given as goal
 
 abbrev pub invariant-loop-i : goal.invariant-loop-i
-invariant-loop-i g l = record {
-  updates : g.S.LaneState.updates l.state ≡ g.S.LaneState.updates l.initial.state + l.i;
-  lanes : (lanes : ℕ → List (List ℕ)) (x : List ℕ) (n : ℕ)
-      → ((j : ℕ) → j < g.S.LaneState.VARIANT.lanes → g.S.LaneState.lane l.initial.state j ≡ after g.S.LaneState.VARIANT (lanes j) j x n)
-      → ((k : ℕ) → k < l.i * l.rate → slice_index x (n * l.rate + k) ≡ slice_index l.bytes (l.at + k))
-      → (j : ℕ) → j < g.S.LaneState.VARIANT.lanes → g.S.LaneState.lane l.state j ≡ after g.S.LaneState.VARIANT (lanes j) j x (n + l.i);
-}
+invariant-loop-i g l =
+    let L = g.S.LaneState in record {
+      updates : L.updates l.state ≡ L.updates l.initial.state + l.i;
+      taken : (block : List ℕ) (ad_bytes total : ℕ) → IsUnopened total l.count l.rate
+          → Takes L.VARIANT (held_by L.VARIANT (L.lane l.initial.state) (L.updates l.initial.state) block ad_bytes total)
+          (held_by L.VARIANT (L.lane l.state) (L.updates l.state) block ad_bytes (total + l.i * l.rate)) (bytes_at l.bytes l.at (l.i * l.rate));
+    }

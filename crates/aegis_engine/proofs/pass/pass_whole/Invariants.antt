@@ -1,21 +1,17 @@
-use Rattle.std.proofs.Common.{◌≡◌, ℕ, ◌+◌, ◌*◌, ◌<◌, ◌≤◌, List, bit_xor, slice_index}
-use Rattle.aegis_base.specs.Message.{after, keystream_byte_along}
-use Rattle.aegis_engine.specs.Pass.{absorbed}
+use Rattle.std.proofs.Common.{◌≡◌, ℕ, ◌+◌, ◌*◌, List}
+use Rattle.aegis_aes.specs.Block.{IsSameBefore, IsSameFrom, bytes_at}
+use Rattle.aegis_base.specs.Context.{IsUnopened, held_by}
+use Rattle.aegis_engine.specs.Pass.{IsPassed}
 use Rattle.aegis_engine.proofs.pass.pass_whole.Given as goal
 
 abbrev pub invariant-loop-i : goal.invariant-loop-i
-invariant-loop-i g l = record {
-  updates : g.S.LaneState.updates l.state ≡ g.S.LaneState.updates l.initial.state + l.i;
-  lanes : (lanes : ℕ → List (List ℕ)) (x : List ℕ) (n : ℕ)
-      → ((j : ℕ) → j < g.S.LaneState.VARIANT.lanes → g.S.LaneState.lane l.initial.state j ≡ after g.S.LaneState.VARIANT (lanes j) j x n)
-      → ((k : ℕ) → k < l.i * l.rate → slice_index x (n * l.rate + k) ≡ slice_index (absorbed l.pass l.initial.buffer l.buffer) (l.at + k))
-      → (j : ℕ) → j < g.S.LaneState.VARIANT.lanes → g.S.LaneState.lane l.state j ≡ after g.S.LaneState.VARIANT (lanes j) j x (n + l.i);
-  written : (lanes : ℕ → List (List ℕ)) (x : List ℕ) (n : ℕ)
-      → ((j : ℕ) → j < g.S.LaneState.VARIANT.lanes → g.S.LaneState.lane l.initial.state j ≡ after g.S.LaneState.VARIANT (lanes j) j x n)
-      → ((k : ℕ) → k < l.i * l.rate → slice_index x (n * l.rate + k) ≡ slice_index (absorbed l.pass l.initial.buffer l.buffer) (l.at + k))
-      → (k : ℕ) → k < l.i * l.rate
-      → slice_index l.buffer (l.at + k)
-      ≡ bit_xor (slice_index l.initial.buffer (l.at + k)) (keystream_byte_along g.S.LaneState.VARIANT lanes x (n * l.rate + k));
-  below : (i : ℕ) → i < l.at → slice_index l.buffer i ≡ slice_index l.initial.buffer i;
-  above : (i : ℕ) → l.at + l.i * l.rate ≤ i → slice_index l.buffer i ≡ slice_index l.initial.buffer i;
-}
+invariant-loop-i g l =
+    let L = g.S.LaneState in record {
+      updates : L.updates l.state ≡ L.updates l.initial.state + l.i;
+      passed : (block : List ℕ) (ad_bytes total : ℕ) → IsUnopened total l.count l.rate
+          → IsPassed L.VARIANT (held_by L.VARIANT (L.lane l.initial.state) (L.updates l.initial.state) block ad_bytes total)
+          (held_by L.VARIANT (L.lane l.state) (L.updates l.state) block ad_bytes (total + l.i * l.rate)) l.pass
+          (bytes_at l.initial.buffer l.at (l.i * l.rate)) (bytes_at l.buffer l.at (l.i * l.rate));
+      below : IsSameBefore l.at l.initial.buffer l.buffer;
+      above : IsSameFrom (l.at + l.i * l.rate) l.initial.buffer l.buffer;
+    }
