@@ -1,11 +1,11 @@
-//! The six variants with both lengths of tags, as users with bad input or bad luck call them.
+//! The six variants with both lengths of tags: wrong input, and unusual lengths.
 //!
-//! - `wrong_tags`: each byte of a tag changed, for the four ways of opening and for a MAC, and what they leave.
-//! - `messages_in_chunks`: two rate blocks and a byte, byte by byte, and cut beside the ends of rate blocks.
-//! - `chunks_that_do_not_fit`: chunks that are refused between others that are not.
-//! - `dropped_decryptors`: what a drop leaves, and a wrong tag of the empty message.
-//! - `empty_messages`: the three ways to seal one, and its opening.
-//! - `keystreams_of_both_tag_lengths`: the ciphertext of zeros, whatever the buffer held.
+//! - `wrong_tags`: the four ways of decryption, and a MAC, with one byte of the tag changed; and what they leave.
+//! - `messages_in_chunks`: two rate blocks and a byte, one byte at a time, and split near the end of a rate block.
+//! - `chunks_that_do_not_fit`: chunks that are too long, between others that are not.
+//! - `dropped_decryptors`: what a dropped decryptor leaves, and a wrong tag of the empty message.
+//! - `empty_messages`: three ways to encrypt one, and its decryption.
+//! - `keystreams_of_both_tag_lengths`: the ciphertext of zeros, over any old bytes of the buffer.
 
 ghost use Rattle.std.specs.Prelude.{◌≤◌, length};
 ghost use Rattle.aegis_base.specs.Lane.{IsTagLength};
@@ -21,7 +21,7 @@ const TOO_SMALL: Result<(), Error> = Err(Error::OutputBufferTooSmall);
 
 const WRONG_TAG: Error = Error::InvalidTag;
 
-// Bytes of a chunk. All of them are more than any destination below has room for.
+// The bytes of chunks: more than any destination below has room for.
 const BYTES: [u8; 137] = [0x11; 137];
 
 // A chunk, and what `update` returns for it.
@@ -31,7 +31,7 @@ fn assert_answer<R: Abort>(rt: &R, answer: Result<(), Error>, expected: Result<(
     assert_eq!(rt; answer, expected);
 }
 
-// Gives the chunks to a decryptor.
+// Passes the chunks to a decryptor.
 fn take_steps<R: Abort, S: LaneState, const TAG_BYTES: usize>(
     rt: &R,
     decryptor: &mut Decryptor<'_, S, TAG_BYTES>,
@@ -42,7 +42,8 @@ fn take_steps<R: Abort, S: LaneState, const TAG_BYTES: usize>(
     }
 }
 
-// Gives the chunks to a decryptor, which is then dropped if there is no tag. Returns how many bytes were opened.
+// Passes the chunks to a decryptor, and finalizes it, or drops it if there is no tag. Returns the length of the
+// message.
 fn opened<R: Abort, const TAG_BYTES: usize>(
     rt: &R,
     cipher: &AnyCipher,
@@ -62,8 +63,8 @@ fn opened<R: Abort, const TAG_BYTES: usize>(
     })
 }
 
-// Opens a ciphertext at once, into a destination. Returns how many bytes were opened.
-fn opened_at_once<const TAG_BYTES: usize>(
+// Decrypts chunks into a destination by one call. Returns the length of the message.
+fn opened_by_one_call<const TAG_BYTES: usize>(
     cipher: &AnyCipher,
     chunks: &[&[u8]],
     tag: &[u8; TAG_BYTES],
@@ -77,7 +78,7 @@ fn opened_at_once<const TAG_BYTES: usize>(
     Ok(opened.len())
 }
 
-// Asserts that a destination has so many bytes of the first kind, and then others that were never written.
+// Asserts that a destination begins with the first `count` bytes of `start`, and that no byte after them was written.
 fn assert_start<R: Abort>(rt: &R, destination: &[u8], start: &[u8], count: usize)
     requires { count ≤ length start.now }
 {
@@ -98,26 +99,26 @@ fn check_wrong_tag<R: Abort + AllocGlobal, const TAG_BYTES: usize>(
 )
     requires { IsTagLength TAG_BYTES }
 {
-    let refused = cipher.decrypt(rt.alloc(), sealed, wrong, &ASSOCIATED_DATA);
-    assert_eq!(rt; refused.err(), Some(WRONG_TAG));
+    let rejected = cipher.decrypt(rt.alloc(), sealed, wrong, &ASSOCIATED_DATA);
+    assert_eq!(rt; rejected.err(), Some(WRONG_TAG));
     let mut buffer = *sealed;
-    let refused = cipher.decrypt_in_place(&mut buffer, wrong, &ASSOCIATED_DATA);
-    assert_answer(rt, refused, Err(WRONG_TAG));
+    let rejected = cipher.decrypt_in_place(&mut buffer, wrong, &ASSOCIATED_DATA);
+    assert_answer(rt, rejected, Err(WRONG_TAG));
     assert_start(rt, &buffer, &[], 0);
 
     let mut destination = [0xaa; 120];
-    let refused = opened(
+    let rejected = opened(
         rt,
         cipher,
         &[(sealed, Ok(()))],
         Some(wrong),
         &mut destination,
     );
-    assert_eq!(rt; refused, Err(WRONG_TAG));
+    assert_eq!(rt; rejected, Err(WRONG_TAG));
     assert_start(rt, &destination, &[0; 114], 114);
     let mut destination = [0xaa; 120];
-    let refused = opened_at_once(cipher, &[sealed], wrong, &mut destination);
-    assert_eq!(rt; refused, Err(WRONG_TAG));
+    let rejected = opened_by_one_call(cipher, &[sealed], wrong, &mut destination);
+    assert_eq!(rt; rejected, Err(WRONG_TAG));
     assert_start(rt, &destination, &[0; 114], 114);
 }
 
@@ -158,7 +159,7 @@ fn wrong_tags(rt: HostRuntime) {
 
 // ---- Chunks
 
-// Seals a message in place by chunks of so many bytes, with an empty chunk after each.
+// Encrypts a message in place, in chunks of `size` bytes with an empty chunk after each.
 fn seal_in_chunks<S: LaneState, const TAG_BYTES: usize>(
     encryptor: &mut Encryptor<S, TAG_BYTES>,
     size: usize,
@@ -174,7 +175,7 @@ fn seal_in_chunks<S: LaneState, const TAG_BYTES: usize>(
     }
 }
 
-// Opens a ciphertext by such chunks.
+// Decrypts a ciphertext in such chunks.
 fn open_in_chunks<S: LaneState, const TAG_BYTES: usize>(
     decryptor: &mut Decryptor<'_, S, TAG_BYTES>,
     size: usize,
@@ -189,7 +190,7 @@ fn open_in_chunks<S: LaneState, const TAG_BYTES: usize>(
     Ok(())
 }
 
-// The tag of a message that is sealed in place by such chunks.
+// Encrypts a message in place in such chunks. Returns its tag.
 fn sealed_in_chunks<const TAG_BYTES: usize>(
     cipher: &AnyCipher,
     size: usize,
@@ -205,7 +206,7 @@ fn sealed_in_chunks<const TAG_BYTES: usize>(
     })
 }
 
-// Opens a ciphertext by such chunks. Returns how many bytes were opened.
+// Decrypts a ciphertext in such chunks. Returns the length of the message.
 fn opened_in_chunks<const TAG_BYTES: usize>(
     cipher: &AnyCipher,
     size: usize,
@@ -276,10 +277,10 @@ fn check_fit<R: Abort, const TAG_BYTES: usize>(rt: &R, cipher: &AnyCipher)
     assert_eq!(rt; opened, Ok(count));
     assert_start(rt, &destination, &[7; 385], count);
 
-    // A chunk that does not fit counts as not there.
+    // A chunk that does not fit is skipped.
     let chunks = [&bytes[..3], &bytes[..count], &bytes[3..count]];
     let mut destination = [0xaa; 385];
-    let opened = opened_at_once(cipher, &chunks, &tag, &mut destination[..count]);
+    let opened = opened_by_one_call(cipher, &chunks, &tag, &mut destination[..count]);
     assert_eq!(rt; opened, Ok(count));
     assert_start(rt, &destination, &[7; 385], count);
 }
@@ -294,7 +295,8 @@ fn chunks_that_do_not_fit(rt: HostRuntime) {
 
 // ---- Drops
 
-// After these steps and a drop, so many zeros are at the start of a destination of a rate block and eight bytes.
+// Asserts that after these steps a dropped decryptor leaves `zeros` zeros at the start of its destination, and changes
+// no other byte. The destination has eight bytes more than a rate block.
 fn check_drop<R: Abort, const TAG_BYTES: usize>(
     rt: &R,
     cipher: &AnyCipher,
@@ -315,17 +317,17 @@ fn check_drops<R: Abort, const TAG_BYTES: usize>(rt: &R, cipher: &AnyCipher)
     requires { IsTagLength TAG_BYTES }
 {
     let rate = cipher.variant().rate();
-    let refused = (&BYTES[..rate + 9], TOO_SMALL);
+    let rejected = (&BYTES[..rate + 9], TOO_SMALL);
     check_drop::<_, TAG_BYTES>(rt, cipher, &[], 0);
-    check_drop::<_, TAG_BYTES>(rt, cipher, &[refused], 0);
-    check_drop::<_, TAG_BYTES>(rt, cipher, &[(&BYTES[..1], Ok(())), refused], 1);
+    check_drop::<_, TAG_BYTES>(rt, cipher, &[rejected], 0);
+    check_drop::<_, TAG_BYTES>(rt, cipher, &[(&BYTES[..1], Ok(())), rejected], 1);
     check_drop::<_, TAG_BYTES>(rt, cipher, &[(&BYTES[..rate + 2], Ok(()))], rate + 2);
 
     let mut tag: [u8; TAG_BYTES] = cipher.encrypt_in_place(&mut [], &ASSOCIATED_DATA);
     tag[0] ^= 1;
     let mut destination = [0xaa; 136];
-    let refused = opened(rt, cipher, &[], Some(&tag), &mut destination);
-    assert_eq!(rt; refused, Err(WRONG_TAG));
+    let rejected = opened(rt, cipher, &[], Some(&tag), &mut destination);
+    assert_eq!(rt; rejected, Err(WRONG_TAG));
     assert_start(rt, &destination, &[], 0);
 }
 

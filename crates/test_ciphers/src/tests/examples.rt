@@ -1,5 +1,6 @@
-//! Worked examples, with results that the library did not make: one message by each function of two ciphers, and in six
-//! chunks; a short message in other chunks than it was sealed in; a MAC of one byte; and a byte that changes one lane.
+//! Examples whose results the library did not compute: one message with each function of two ciphers, and in six
+//! chunks; a short message, decrypted in other chunks than it was encrypted in; a MAC of one byte; and a byte that
+//! changes one lane.
 
 use crate::tests::assert_bytes;
 use aegis::aegis128l::{Aegis128L, Aegis128LMac};
@@ -13,7 +14,7 @@ use test_tools::calls::{
     AEGIS256_CIPHERTEXT, AEGIS256_TAG, ASSOCIATED_DATA, LONG_KEY, MESSAGE, SHORT_KEY,
 };
 
-// What AEGIS-128L makes of the message under `SHORT_KEY` and a nonce of zeros.
+// The message under AEGIS-128L, `SHORT_KEY` and a nonce of zeros.
 const AEGIS128L_CIPHERTEXT: &str =
     "899362861e6c645ab98b6effa9c962e88a9fa647a95060cd026d1665478ae74f82949faf8394a6c8b49f8b8a5068bc325935cc6f0cd4c48f6219817684735f0de8a70d3b138f3a3b2aceee8b02fbc2deb93b8f74e7afe943e50bdb7fa0d759d96d594ce16676455efc0245cdfb419fb10365";
 
@@ -21,8 +22,8 @@ const AEGIS128L_TAG: &str = "10f485a74c28388806eb3d8bfc073996";
 
 const ZEROS: [u8; 16] = [0; 16];
 
-// Asserts what a cipher seals the message to, in place and in a vector, and opens both. With a tag of 32 bytes it comes
-// back too.
+// Asserts the ciphertext and the tag of the message, in place and in a vector, and decrypts both. Also encrypts and
+// decrypts the message with a tag of 32 bytes.
 fn check_example<R: Abort + AllocGlobal>(
     rt: &R,
     cipher: &AnyCipher,
@@ -83,8 +84,8 @@ fn six_chunks(rt: HostRuntime) -> Result<(), Fail> {
     assert_eq!(rt; chunks_len(&chunks), Some(114));
     let mut sealed = [0; 114];
     let found = cipher.seal_chunks(&ASSOCIATED_DATA, &chunks, &mut sealed);
-    assert_bytes(&rt, &sealed, &expected, &"at once");
-    assert_bytes(&rt, &found, &tag, &"at once");
+    assert_bytes(&rt, &sealed, &expected, &"by one call");
+    assert_bytes(&rt, &found, &tag, &"by one call");
     Ok(())
 }
 

@@ -42,7 +42,7 @@ const FIRST: [u8; 81] = [
 // More requests than the calls below make.
 const REQUESTS: u64 = 20;
 
-// Asserts that something is refused with this error, and names the case otherwise.
+// Asserts that a result has this error. Names the case otherwise.
 fn assert_error<R: Abort, C: Debug>(
     rt: &R,
     error: Option<RecordError>,
@@ -76,8 +76,8 @@ fn comes_back<A: Allocator + Copy>(alloc: A) -> Result<bool, RecordError> {
     Ok(opens_to_messages(alloc, &NEW_PREFIX, &new)? && is_opened)
 }
 
-// How a stream of the two messages is refused if it is cut off, or if a byte of its tags is another, and under a prefix
-// of which the first or the last byte is another.
+// The errors of a stream of the two messages that is truncated, in whose tags a byte was changed, or whose prefix has
+// another first or last byte.
 fn check_faults<R: Abort + AllocGlobal>(rt: &R, stream: &[u8; 81]) {
     for count in 0..81usize {
         let error = if count < 4 {
@@ -85,21 +85,21 @@ fn check_faults<R: Abort + AllocGlobal>(rt: &R, stream: &[u8; 81]) {
         } else {
             RecordError::Truncated
         };
-        let refused = opens_to_messages(rt.alloc(), &PREFIX, &stream[..count]).err();
-        assert_error(rt, refused, error, &count);
+        let rejected = opens_to_messages(rt.alloc(), &PREFIX, &stream[..count]).err();
+        assert_error(rt, rejected, error, &count);
     }
     for (first, last, number) in [(1, 0, 0), (0, 1, 1), (1, 1, 0)] {
         let mut damaged = *stream;
         damaged[9] ^= first;
         damaged[80] ^= last;
-        let refused = opens_to_messages(rt.alloc(), &PREFIX, &damaged).err();
-        assert_error(rt, refused, RecordError::Damaged(number), &(first, last));
+        let rejected = opens_to_messages(rt.alloc(), &PREFIX, &damaged).err();
+        assert_error(rt, rejected, RecordError::Damaged(number), &(first, last));
     }
     for at in [0, 23usize] {
         let mut prefix = PREFIX;
         prefix[at] ^= 1;
-        let refused = opens_to_messages(rt.alloc(), &prefix, stream).err();
-        assert_error(rt, refused, RecordError::Damaged(0), &at);
+        let rejected = opens_to_messages(rt.alloc(), &prefix, stream).err();
+        assert_error(rt, rejected, RecordError::Damaged(0), &at);
     }
 }
 
@@ -112,22 +112,22 @@ fn streams_that_are_cut_off_or_changed(rt: HostRuntime) -> Result<(), Fail> {
     Ok(())
 }
 
-// With each request refused in turn, the first ones of which are needed.
+// With each request of memory failing in turn. The first ones are needed.
 #[test]
 fn the_first_version_or_want_of_memory(rt: HostRuntime) {
-    let mut refused = 0;
+    let mut failed = 0;
     for requests in 0..REQUESTS {
         let heap = Rationed::new(rt.alloc(), requests);
         match comes_back(&heap) {
             Ok(is_right) => assert!(rt; is_right),
             Err(error) => {
                 assert_error(&rt, Some(error), RecordError::OutOfMemory, &requests);
-                assert!(rt; refused == requests);
-                refused += 1;
+                assert!(rt; failed == requests);
+                failed += 1;
             }
         }
     }
-    assert!(rt; 0 < refused && refused < REQUESTS);
+    assert!(rt; 0 < failed && failed < REQUESTS);
 }
 
 // The stream is reserved whole.
@@ -135,8 +135,8 @@ fn the_first_version_or_want_of_memory(rt: HostRuntime) {
 fn sealing_makes_one_request(rt: HostRuntime) -> Result<(), Fail> {
     assert_eq!(rt; records_len(&MESSAGES), Some(81));
     let heap = Rationed::new(rt.alloc(), 0);
-    let refused = seal_records(&heap, &KEY, &PREFIX, &CONTEXT, &MESSAGES);
-    assert_error(&rt, refused.err(), RecordError::OutOfMemory, &"no request");
+    let rejected = seal_records(&heap, &KEY, &PREFIX, &CONTEXT, &MESSAGES);
+    assert_error(&rt, rejected.err(), RecordError::OutOfMemory, &"no request");
     let heap = Rationed::new(rt.alloc(), 1);
     let stream = seal_records(&heap, &KEY, &PREFIX, &CONTEXT, &MESSAGES)?;
     assert!(rt; stream.len() == 81 && heap.left() == 0);
@@ -167,8 +167,8 @@ fn want_of_memory_leaves_the_vector_as_it_was(rt: HostRuntime) -> Result<(), Fai
     let heap = Rationed::new(rt.alloc(), 1);
     let mut stream = Vec::new(&heap);
     let mut sealer = RecordSealer::new(&KEY, &PREFIX, &CONTEXT, &mut stream)?;
-    let refused = sealer.seal_next(&[0; 1000], &mut stream);
-    assert_error(&rt, refused.err(), RecordError::OutOfMemory, &"a record");
+    let rejected = sealer.seal_next(&[0; 1000], &mut stream);
+    assert_error(&rt, rejected.err(), RecordError::OutOfMemory, &"a record");
     assert_bytes(&rt, &stream, b"AGR2", &"the header");
     Ok(())
 }
@@ -202,7 +202,7 @@ fn a_record_is_opened_at_its_position(rt: HostRuntime) -> Result<(), Fail> {
     Ok(())
 }
 
-// A refused record may be opened again, and after the last one nothing is opened.
+// A rejected record may be opened again. After the last record nothing is opened.
 #[test]
 fn a_refusal_leaves_the_opener(rt: HostRuntime) -> Result<(), Fail> {
     let (header, records) = FIRST.split_at(4);
@@ -214,13 +214,13 @@ fn a_refusal_leaves_the_opener(rt: HostRuntime) -> Result<(), Fail> {
         (&[2], RecordError::Flag),
     ];
     for (bytes, error) in cases {
-        let refused = opened(rt.alloc(), &mut opener, bytes).err();
-        assert_error(&rt, refused, error, &bytes);
+        let rejected = opened(rt.alloc(), &mut opener, bytes).err();
+        assert_error(&rt, rejected, error, &bytes);
     }
     let second = opened(rt.alloc(), &mut opener, first.rest)?;
     assert_bytes(&rt, &second.message, MESSAGES[1], &"the message");
-    let refused = opened(rt.alloc(), &mut opener, records).err();
-    assert_error(&rt, refused, RecordError::Trailing, &"after the last");
+    let rejected = opened(rt.alloc(), &mut opener, records).err();
+    assert_error(&rt, rejected, RecordError::Trailing, &"after the last");
     Ok(())
 }
 
