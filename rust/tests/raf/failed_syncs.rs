@@ -1,7 +1,7 @@
 //! Syncs that fail, as in Linux: the bytes can be read afterwards, are on the disk in part or not at all, and no later sync
 //! writes them. Also crashes, and openings that fail or crash, in any order.
 
-use crate::support::{KEY, Random, put, tear};
+use crate::support::{KEY, Random, front_of, put, tear};
 use hunkravy::raf::{Aegis256, Error, Raf, RafBuilder, RafIo};
 use std::cell::RefCell;
 use std::io;
@@ -270,7 +270,7 @@ fn failed_syncs_and_crashes() {
 fn a_journal_that_is_emptied_twice() {
     for seed in 1..200 {
         let mut world = World::new(seed);
-        let mut torn = front_of(&world.machine.borrow().parts[0].read);
+        let mut torn = front_of(&world.machine.borrow().parts[0].read).to_vec();
         torn.resize(2000, 5);
         let machine = world.machine.clone();
         machine.borrow_mut().parts[1].read = torn.clone();
@@ -285,9 +285,4 @@ fn a_journal_that_is_emptied_twice() {
         drop(file);
         world.end();
     }
-}
-
-/// Returns the beginning of a file's journals.
-fn front_of(file: &[u8]) -> Vec<u8> {
-    [&b"AGJ1"[..], &file[4..33], &[0; 479]].concat()
 }

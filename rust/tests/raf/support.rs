@@ -12,12 +12,19 @@ pub const KEY: [u8; 32] = [7; 32];
 /// How many calls a commit makes until its journal is certain, before it writes anything to the file.
 pub const JOURNAL_CALLS: usize = 4;
 
+/// Returns what the journals of a file begin with.
+pub fn front_of(file: &[u8]) -> [u8; 512] {
+    let mut front = [0; 512];
+    front[..33].copy_from_slice(&file[..33]);
+    front[..4].copy_from_slice(b"AGJ1");
+    front
+}
+
 /// Returns what the journals of another file begin with, whose pages have 256 bytes.
 pub fn front_of_another() -> [u8; 512] {
-    let mut front = [0; 512];
-    front[..33].fill(0x6d);
-    front[..9].copy_from_slice(b"AGJ1\x21\0\x01\0\0");
-    front
+    let mut file = [0x6d; 33];
+    file[4..9].copy_from_slice(b"\x21\0\x01\0\0");
+    front_of(&file)
 }
 
 impl RafRng for Random {
