@@ -79,6 +79,11 @@ def native_module(archive: pathlib.Path) -> bytes:
         return module.read_bytes()
 
 
+def page() -> str:
+    """The page of the package. Of a link to another file only the text stays, since no such file is beside METADATA."""
+    return re.sub(r"\[([^\]]*)\]\((?![a-z]+:|#)[^)]*\)", r"\1", (HERE / PROJECT["readme"]).read_text())
+
+
 def metadata() -> str:
     """The file METADATA, which sources have as PKG-INFO."""
     classifiers = "".join(f"Classifier: {classifier}\n" for classifier in PROJECT["classifiers"])
@@ -92,7 +97,7 @@ License-File: LICENSE
 Requires-Python: {PROJECT["requires-python"]}
 {classifiers}Description-Content-Type: text/markdown
 
-{(HERE / PROJECT["readme"]).read_text()}"""
+{page()}"""
 
 
 def record_line(name: str, data: bytes) -> str:
@@ -168,10 +173,11 @@ def build_editable(wheel_directory: str, config_settings: object = None, metadat
 def build_sdist(sdist_directory: str, config_settings: object = None) -> str:
     """Builds the archive of the sources, with the headers and the library for processors like this one."""
     name = f"hunkravy-{version()}"
-    own = ("build_wheel.py", "pyproject.toml", PROJECT["readme"], "native/native.c")
+    own = ("build_wheel.py", "pyproject.toml", "native/native.c")
     files = sources() | {path: (HERE / path).read_bytes() for path in own}
     files |= {f"include/{header}": (include() / header).read_bytes() for header in HEADERS}
-    files |= {"lib/libhunkravy.a": library().read_bytes(), "LICENSE": licence(), "PKG-INFO": metadata().encode()}
+    files |= {"lib/libhunkravy.a": library().read_bytes(), "LICENSE": licence()}
+    files |= {PROJECT["readme"]: page().encode(), "PKG-INFO": metadata().encode()}
     path = pathlib.Path(sdist_directory) / f"{name}.tar.gz"
     with open(path, "wb") as file, gzip.GzipFile("", "wb", fileobj=file, mtime=moment()) as packed:
         with tarfile.open(fileobj=packed, mode="w", format=tarfile.PAX_FORMAT) as archive:
