@@ -7,13 +7,13 @@ BENCH_FOLDER = $(if $(filter x86-64-v2,$(BENCH_CPU)),bench,bench/$(BENCH_CPU))
 
 bench: bench-peers bench-tool bench-random-access bench-python
 
-# $(call write,PAGE,TEXT): a program's output becomes the table of a page, whose text is that of the page TEXT.
-write = python3 bench/table.py $(1) $(or $(2),$(1))
+# $(call write,PAGE): a program's output becomes the table of a page, whose text stays.
+write = python3 bench/table.py $(1)
 
 # Encryption in place beside libsodium.
 bench-peers: $(OUT)/$(BENCH_CPU)/libhunkravy.a
 	$(CC) -std=c11 -O2 $(C_FLAGS) bench/peers.c $< $$(pkg-config --cflags --libs libsodium) -o $(OUT)/$(BENCH_CPU)/peers
-	$(OUT)/$(BENCH_CPU)/peers | $(call write,$(BENCH_FOLDER)/PEERS.md,bench/PEERS.md)
+	$(OUT)/$(BENCH_CPU)/peers | $(call write,$(BENCH_FOLDER)/PEERS.md)
 	python3 bench/picture.py bench/x86-64-v3/PEERS.md > bench/x86-64-v3/peers.svg
 
 # Random-access files of the Cargo package, beside a plain file and encryption in memory.
@@ -24,7 +24,7 @@ $(call RANDOM_ACCESS,%): $(wildcard bench/package/* rust/src/*.rs rust/src/*/*.r
 		cargo build --release --offline --target-dir "$(CURDIR)/$(OUT)/$*/cargo"
 
 bench-random-access: $(call RANDOM_ACCESS,$(BENCH_CPU))
-	$< /dev/shm/hunkravy-bench | $(call write,$(BENCH_FOLDER)/RANDOM-ACCESS.md,bench/RANDOM-ACCESS.md)
+	$< /dev/shm/hunkravy-bench | $(call write,$(BENCH_FOLDER)/RANDOM-ACCESS.md)
 
 # Whether that program runs, on little.
 check-bench: $(call RANDOM_ACCESS,both)

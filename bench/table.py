@@ -1,8 +1,8 @@
-"""Writes the table of a page in bench/: PROGRAM | table.py PAGE TEXT
+"""Writes the table of a page in bench/: PROGRAM | table.py PAGE
 
 PROGRAM writes a line for each turn, with tabs between: the row, the column, seconds, and bytes. A cell has the shortest
-time of its turns: as MB/s, or in seconds if there are no bytes. A line without tabs comes after the table. The page
-begins with the text of TEXT, a page too, up to the line on the processor.
+time of its turns: as MB/s, or in seconds if there are no bytes. A line without tabs comes after the table. The text of
+the page, up to the line on the processor, stays.
 """
 
 import re
@@ -40,9 +40,9 @@ def table(lines: list[str], title: str) -> str:
     return "\n".join([f"| {' | '.join([title, *columns])} |", rule, *(f"| {' | '.join(row)} |" for row in rows)])
 
 
-def main(page: str, text: str) -> None:
-    """Writes the page, with the titles of the rows that the table of TEXT has."""
-    beginning, _, old = Path(text).read_text().partition("\nProcessor: ")
+def main(page: str) -> None:
+    """Writes the page, with the titles of the rows that its table has."""
+    beginning, _, old = Path(page).read_text().partition("\nProcessor: ")
     lines = sys.stdin.read().splitlines()
     turns, notes = [line for line in lines if "\t" in line], [line for line in lines if line and "\t" not in line]
     width = turns[0].split("\t")[0].count("|") + 1
