@@ -3,6 +3,7 @@
 pub mod both_or_none;
 pub mod kept_commitment;
 pub mod kept_in_memory;
+pub mod kept_on_disks;
 pub mod page_counter;
 pub mod page_table;
 pub mod reopened_file;
