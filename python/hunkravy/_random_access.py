@@ -13,7 +13,7 @@ from collections.abc import Iterator
 from types import TracebackType
 from typing import TYPE_CHECKING, NamedTuple, Optional, Self, Union
 
-from . import _native, _variants as variants
+from . import _native, _turns as turns, _variants as variants
 from ._files import RawFile, bytes_of
 
 if TYPE_CHECKING:
@@ -198,7 +198,7 @@ class Journal:
             os.unlink(self.path)
 
 
-class RandomAccessFile(variants.Secret):
+class RandomAccessFile(variants.Secret, turns.Turns):
     """An encrypted file whose contents are read and written at any place.
 
     Changes are kept in memory until a commit: `commit`, the end of a `batch`, `close`, or a write after which more than
@@ -260,9 +260,11 @@ class RandomAccessFile(variants.Secret):
     def _begin(
         self, path: Union[str, os.PathLike[str]], key: _ReadableBuffer, cipher: type[variants.Variant], flags: int
     ) -> None:
-        """Opens and locks the file."""
-        self._turn = threading.RLock()
-        self._owner = process()
+        """Opens and locks the file, or creates one."""
+        is_new = bool(flags & os.O_EXCL)
+        turns.Turns.__init__(self)
+        self._batches = threading.RLock()
+        self._process = process()
         # The bytes of each changed page, which are never changed in place, so that a savepoint need not copy them.
         self._changes: dict[int, bytes] = {}
         # What a change that an exception of a signal cuts short is taken back to: pages, and the length.
@@ -275,9 +277,14 @@ class RandomAccessFile(variants.Secret):
         self._file = os.open(self._path, flags | os.O_CLOEXEC, 0o666)
         self._journal = Journal(self._path, self._file)
         try:
+            if not is_new and os.fstat(self._file).st_size == 0 and self._journal.size() == 0:
+                # Who has just created it locks it next, and must not find it locked.
+                raise RandomAccessError("header")
             fcntl.flock(self._file, fcntl.LOCK_EX | fcntl.LOCK_NB)
             self._check_name()
         except BaseException as error:
+            if is_new:
+                os.unlink(self._path)
             self._drop()
             if isinstance(error, BlockingIOError):
                 raise RandomAccessError("locked") from None
@@ -301,7 +308,7 @@ class RandomAccessFile(variants.Secret):
         Raises "damaged" if a page is not authentic.
         """
         offset, length = natural(offset), natural(length)
-        with self._turn:
+        with self._next_batch(), self._turn():
             self._check()
             end = min(offset + length, self._size)
             if offset >= end:
@@ -317,11 +324,9 @@ class RandomAccessFile(variants.Secret):
         After an exception nothing has changed, unless it is one of `commit`.
         """
         offset = natural(offset)
-        with self._turn, memoryview(data) as given, bytes_of(given) as view:
+        with self._next_batch(), self._turn(), memoryview(data) as given, bytes_of(given) as view:
             self._check()
-            self._change(offset, view)
-            if len(self._changes) * self._page_size > MOST_CHANGED_BYTES and self._batch is None:
-                self.commit()
+            self._write(offset, view)
             return len(view)
 
     def truncate(self, size: int) -> int:
@@ -330,10 +335,10 @@ class RandomAccessFile(variants.Secret):
         The file itself does not become shorter.
         """
         size = natural(size)
-        with self._turn:
+        with self._next_batch(), self._turn():
             self._check()
             if size > self._size:
-                self.write_at(size, b"")
+                self._write(size, memoryview(b""))
                 return size
             count = self._page_count(size)
             changes = {number: page for number, page in self._changes.items() if number < count}
@@ -347,6 +352,12 @@ class RandomAccessFile(variants.Secret):
         Closing it commits, outside a batch. The file stays open.
         """
         return RandomAccessStream(self)
+
+    def _write(self, offset: int, data: memoryview) -> None:
+        """Makes a change, and commits if there are too many."""
+        self._change(offset, data)
+        if len(self._changes) * self._page_size > MOST_CHANGED_BYTES and self._batch is None:
+            self._commit()
 
     def _change(self, offset: int, data: memoryview) -> None:
         """Makes a change in memory: all of it, or nothing."""
@@ -413,30 +424,40 @@ class RandomAccessFile(variants.Secret):
         If the journal cannot be made, or there is no room for longer contents, the changes are still in memory. After an
         exception of writing the file is broken: open it again, which gives the contents before the changes or after them.
         """
-        with self._turn:
+        with self._next_batch(), self._turn():
             self._check()
-            if not self._changes and self._size == self._stored:
-                return
-            if self._counter == (1 << 64) - 1:
-                raise RandomAccessError("too_long")
-            writes = self._writes()
-            self._check_name()
-            self._reserve(writes[-2][0] + len(writes[-2][1]))
-            if self._journal.size():
-                raise RandomAccessError("journal")
-            journal = self._journal.create()
-            try:
-                self._is_broken = True
-                self._make(journal, writes)
-            finally:
-                os.close(journal)
-            # A signal before this leaves the file broken, although its commit is made.
-            self._counter, self._stored, self._changes, self._is_broken = self._counter + 1, self._size, {}, False
+            self._commit()
+
+    def _commit(self) -> None:
+        if not self._changes and self._size == self._stored:
+            return
+        if self._counter == (1 << 64) - 1:
+            raise RandomAccessError("too_long")
+        writes = self._writes()
+        self._check_name()
+        self._reserve(writes[-2][0] + len(writes[-2][1]))
+        if self._journal.size():
+            raise RandomAccessError("journal")
+        journal = self._journal.create()
+        try:
+            self._is_broken = True
+            self._make(journal, writes)
+        finally:
+            os.close(journal)
+        # A signal before this leaves the file broken, although its commit is made.
+        self._counter, self._stored, self._changes, self._is_broken = self._counter + 1, self._size, {}, False
 
     def discard(self) -> None:
         """Discards all changes since the last commit."""
-        with self._turn:
-            self._changes, self._size, self._undo = {}, self._stored, None
+        with self._next_batch(), self._turn():
+            self._discard()
+
+    def _discard(self) -> None:
+        self._changes, self._size, self._undo = {}, self._stored, None
+
+    def _next_batch(self) -> threading.RLock:
+        """Returns the lock of batches, which the thread of an open one has."""
+        return turns.waited_for(self._batches)
 
     @contextlib.contextmanager
     def batch(self) -> Iterator[Self]:
@@ -445,11 +466,12 @@ class RandomAccessFile(variants.Secret):
         Changes that were made before are committed first. A batch in another one commits nothing: if it fails, its own
         changes are discarded. Other threads wait until the batch ends.
         """
-        with self._turn:
+        with self._next_batch():
             if self._batch is None:
                 self.commit()
-            self._check()
-            own = Savepoint(self._batch, dict(self._changes), self._size, self._counter)
+            with self._turn():
+                self._check()
+                own = Savepoint(self._batch, dict(self._changes), self._size, self._counter)
             try:
                 self._batch = own
                 yield self
@@ -468,7 +490,7 @@ class RandomAccessFile(variants.Secret):
         if batch.counter == self._counter:
             self._changes, self._size, self._undo = batch.changes, batch.size, None
         else:
-            self.discard()
+            self._discard()
 
     def _writes(self) -> list[tuple[int, bytes]]:
         """Returns the writes of a commit: the old header, the changed pages, and the next header."""
@@ -567,7 +589,7 @@ class RandomAccessFile(variants.Secret):
     def _check(self) -> None:
         if self.closed:
             raise ValueError("I/O operation on closed file")
-        if self._owner != process():
+        if self._process != process():
             raise RandomAccessError("locked")
         if self._is_broken:
             raise RandomAccessError("broken")
@@ -588,21 +610,27 @@ class RandomAccessFile(variants.Secret):
 
         In another process than the one that opened it, and in a batch that has not ended, it only closes it.
         """
-        with self._turn:
+        with self._next_batch(), self._turn():
             if self.closed:
                 return
             try:
-                if self._owner == process() and not self._is_broken and self._batch is None:
-                    self.commit()
+                if self._process == process() and not self._is_broken and self._batch is None:
+                    self._check()
+                    self._commit()
             finally:
                 self._drop()
 
     def _drop(self) -> None:
-        if self._file >= 0:
-            os.close(self._file)
-        self._file = -1
+        # A signal that comes while it is closed does not have it closed once more.
+        file, self._file = self._file, -1
         self._changes = {}
         self.__dict__.pop("_cipher", None)
+        try:
+            if self._process == process():
+                # A process that was forked may keep another descriptor of it.
+                fcntl.flock(file, fcntl.LOCK_UN)
+        finally:
+            os.close(file)
 
     def __enter__(self) -> Self:
         self._check()

@@ -8,6 +8,15 @@ import threading
 from typing import Any, ContextManager
 
 
+def waited_for(lock: threading.RLock) -> threading.RLock:
+    """Returns a lock. It raises an error if the interpreter ends, since a thread that has the lock then never goes on."""
+    if sys.is_finalizing():
+        if not lock.acquire(blocking=False):
+            raise RuntimeError("a method is called in another thread, and the interpreter ends")
+        lock.release()
+    return lock
+
+
 class Turns:
     """An object with a lock, so that threads take turns."""
 
@@ -27,9 +36,4 @@ class Turns:
             pass
         else:
             raise RuntimeError("reentrant call")
-        if sys.is_finalizing():
-            # A thread that has it never goes on.
-            if not self._lock.acquire(blocking=False):
-                raise RuntimeError("a method is called in another thread, and the interpreter ends")
-            self._lock.release()
-        return self._lock
+        return waited_for(self._lock)

@@ -2,6 +2,7 @@
 
 import contextlib
 import errno
+import fcntl
 import io
 import itertools
 import os
@@ -12,6 +13,7 @@ import tempfile
 import threading
 import unittest
 import zipfile
+from collections.abc import Callable
 from typing import Any
 from unittest import mock
 
@@ -340,6 +342,62 @@ class Files(unittest.TestCase):
         self.assertCause("locked", RandomAccessFile, self.path, KEY)
         file.close()
         self.assertEqual(contents(self.path), b"of the parent")
+
+    def test_a_close_in_a_process_that_was_forked(self) -> None:
+        file = RandomAccessFile.create(self.path, KEY)
+        reader, writer = os.pipe()
+        child = os.fork()
+        if child == 0:
+            os.close(writer)
+            os.read(reader, 1)
+            os._exit(0)
+        file.close()
+        RandomAccessFile(self.path, KEY).close()
+        os.close(writer)
+        os.close(reader)
+        self.assertEqual(os.waitpid(child, 0)[1], 0)
+
+    def test_a_file_that_is_being_created(self) -> None:
+        self.path.touch()
+        with mock.patch.object(fcntl, "flock") as lock:
+            self.assertCause("header", RandomAccessFile, self.path, KEY)
+        lock.assert_called_once_with(mock.ANY, fcntl.LOCK_UN)
+        self.path.unlink()
+        with mock.patch.object(fcntl, "flock", side_effect=[BlockingIOError, None]):
+            self.assertCause("locked", RandomAccessFile.create, self.path, KEY)
+        self.assertFalse(self.path.exists())
+
+    def test_a_call_inside_another(self) -> None:
+        class Entered(dict[int, bytes]):
+            def update(self, *changes: Any, **named: Any) -> None:
+                for call in calls:
+                    with test.assertRaisesRegex(RuntimeError, "^reentrant call$"):
+                        call()
+                super().update(*changes, **named)
+
+        test = self
+        with RandomAccessFile.create(self.path, KEY) as file:
+            calls: list[Callable[[], Any]] = [file.commit, file.discard, file.close, lambda: file.batch().__enter__()]
+            calls += [lambda: file.read_at(0, 1), lambda: file.write_at(0, b"x"), lambda: file.truncate(0)]
+            file._changes = Entered()
+            file.write_at(0, b"whole")
+            with file.batch():
+                file._changes = Entered(file._changes)
+                file.write_at(5, b" too")
+        self.assertEqual(contents(self.path), b"whole too")
+
+    def test_a_close_that_a_signal_cuts_short(self) -> None:
+        def interrupted(descriptor: int) -> None:
+            close(descriptor)
+            raise KeyboardInterrupt
+
+        close, file = os.close, RandomAccessFile.create(self.path, KEY)
+        with mock.patch.object(os, "close", interrupted), self.assertRaises(KeyboardInterrupt):
+            file.close()
+        with open(self.path, "rb") as other:
+            # It has the descriptor that the file had.
+            del file
+            self.assertEqual(other.read(4), b"AGP1")
 
     def test_a_write_that_a_signal_cuts_short(self) -> None:
         class Interrupted(dict[int, bytes]):

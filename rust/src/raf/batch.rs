@@ -122,8 +122,8 @@ impl<A: Algorithm, I: RafIo, R: RafRng, J: RafIo> Raf<A, I, R, J> {
     /// is broken.
     ///
     /// [`Error::Moved`] if `changes` has put another `Raf` in the place of this one, for example with [`core::mem::swap`]. Then the
-    /// batch neither commits nor discards. The changes stay in the file that they were made in, and dropping it does not commit
-    /// them.
+    /// batch neither commits nor discards. The changes of this one stay in it, and dropping it does not commit them. Those of the
+    /// other one are outside the batch, and dropping that one commits them.
     ///
     /// ```
     /// # use hunkravy::raf::{Aegis256, Error, Raf};
