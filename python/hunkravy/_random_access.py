@@ -606,16 +606,18 @@ class RandomAccessFile(variants.Secret, turns.Turns):
             raise RandomAccessError("moved")
 
     def close(self) -> None:
-        """Commits the changes, and closes the file.
+        """Commits the changes, and closes the file. In another process than the one that opened it, it only closes it.
 
-        In another process than the one that opened it, and in a batch that has not ended, it only closes it.
+        In a batch that has not ended it discards the changes, and raises `RuntimeError` if there are any.
         """
         with self._next_batch(), self._turn():
             if self.closed:
                 return
             try:
-                if self._process == process() and not self._is_broken and self._batch is None:
+                if self._process == process() and not self._is_broken:
                     self._check()
+                    if self._batch is not None and (self._changes or self._size != self._stored):
+                        raise RuntimeError("closed in a batch: its changes are discarded")
                     self._commit()
             finally:
                 self._drop()

@@ -309,6 +309,17 @@ class Files(unittest.TestCase):
             self.assertEqual(file.read_at(0, 99), b"second")
         self.assertEqual(contents(self.path), b"second")
 
+    def test_a_batch_that_is_left_open(self) -> None:
+        file = RandomAccessFile.create(self.path, KEY)
+        batch = file.batch()
+        batch.__enter__()
+        with file.batch():
+            file.write_at(0, b"lost")
+        with self.assertRaisesRegex(RuntimeError, "changes are discarded"):
+            file.close()
+        self.assertTrue(file.closed)
+        self.assertEqual(contents(self.path), b"")
+
     def test_locks_and_moves(self) -> None:
         file = RandomAccessFile.create(self.path, KEY)
         self.assertCause("locked", RandomAccessFile, self.path, KEY)
