@@ -8,6 +8,9 @@ use std::io::{Read, Write};
 use std::panic::{AssertUnwindSafe, catch_unwind};
 use std::path::PathBuf;
 use std::rc::Rc;
+use std::sync::Arc;
+use std::sync::atomic::{AtomicBool, Ordering::SeqCst};
+use std::thread;
 
 const KEY: [u8; 32] = [7; 32];
 
@@ -16,6 +19,7 @@ unsafe extern "C" {
     fn fork() -> c_int;
     fn waitpid(process: c_int, status: *mut c_int, options: c_int) -> c_int;
     safe fn _exit(status: c_int) -> !;
+    safe fn alarm(seconds: u32) -> u32;
 }
 
 /// Does something in a child, and returns whether it returned true there.
@@ -196,6 +200,33 @@ fn the_end_of_a_batch_in_a_child() {
     assert_eq!(fs::read(&path).unwrap(), bytes);
     drop(file);
     fs::remove_file(&path).unwrap();
+}
+
+/// A child makes batches in files of its own, also if another thread was at the list of batches during the fork.
+#[test]
+fn a_batch_of_a_child_alone() {
+    let is_over = Arc::new(AtomicBool::new(false));
+    let other = is_over.clone();
+    let thread = thread::spawn(move || {
+        let (file, path, _) = file("other-thread");
+        let mut file = file.unwrap();
+        while !other.load(SeqCst) {
+            file.batch(|_| Ok::<_, Error>(())).unwrap();
+        }
+        drop(file);
+        fs::remove_file(path).unwrap();
+    });
+    for number in 0..200 {
+        assert!(is_so_in_a_child(|| {
+            // It ends by a signal if it waits for ever.
+            alarm(20);
+            let (file, path, _) = file(&format!("own-{number}"));
+            let is_made = file.unwrap().batch(|file| file.write(b"x", 0)).is_ok();
+            fs::remove_file(path).is_ok() && is_made
+        }));
+    }
+    is_over.store(true, SeqCst);
+    thread.join().unwrap();
 }
 
 /// A storage that was opened before the fork shares its lock with the child, which therefore cannot lock it.

@@ -1,6 +1,7 @@
 //! Changes that are committed together, or discarded.
 
 use super::changes::Changes;
+use super::system::forks;
 use super::{Algorithm, Error, Raf, RafIo, RafRng};
 use alloc::vec::Vec;
 use std::io::ErrorKind;
@@ -13,13 +14,18 @@ struct Batches {
     open: Vec<u64>,
 }
 
-static BATCHES: Mutex<Batches> = Mutex::new(Batches {
-    last: 0,
-    open: Vec::new(),
-});
+/// A process that was forked has another list than the one that forked it: a thread of that one may have held its list, which
+/// then is locked for ever in the child. A child has no use for it, since it cannot use the files of the other.
+static BATCHES: [Mutex<Batches>; 16] = [const {
+    Mutex::new(Batches {
+        last: 0,
+        open: Vec::new(),
+    })
+}; 16];
 
 fn batches() -> MutexGuard<'static, Batches> {
-    BATCHES.lock().unwrap_or_else(PoisonError::into_inner)
+    let list = &BATCHES[forks() as usize % BATCHES.len()];
+    list.lock().unwrap_or_else(PoisonError::into_inner)
 }
 
 /// Begins a batch, and returns its number.
