@@ -164,12 +164,19 @@ class Journal:
         return self._create(self.path)
 
     def _create(self, path: str) -> int:
-        """Makes a file with the owner and the permissions of the file, or one for its owner alone."""
+        """Makes a file with the owner, the group and the permissions of the file, as far as the system allows."""
         made = os.open(path, os.O_RDWR | os.O_CREAT | os.O_EXCL | os.O_CLOEXEC, 0o600)
         of = os.fstat(self._file)
-        with contextlib.suppress(PermissionError):
+        try:
             os.fchown(made, of.st_uid, of.st_gid)
-            os.fchmod(made, stat.S_IMODE(of.st_mode) & 0o666 | 0o600)
+        except PermissionError:
+            with contextlib.suppress(PermissionError):
+                os.fchown(made, -1, of.st_gid)
+        # In another group its members get the permissions that both the group and the others have.
+        others = of.st_mode & of.st_mode >> 3 & 0o006
+        group = of.st_mode & 0o060 if os.fstat(made).st_gid == of.st_gid else others << 3
+        with contextlib.suppress(PermissionError):
+            os.fchmod(made, 0o600 | group | others)
         return made
 
     def write_again(self, content: _ReadableBuffer) -> None:

@@ -502,6 +502,22 @@ class Files(unittest.TestCase):
         journal.symlink_to(self.folder / "elsewhere")
         self.assertRaises(OSError, RandomAccessFile, self.path, KEY)
 
+    def test_the_journal_of_a_user_of_the_group(self) -> None:
+        """Others who may write the file can complete a commit of a user who cannot set the owner of the journal."""
+
+        def of_the_group(descriptor: int, user: int, group: int) -> None:
+            if user != -1:
+                raise PermissionError(errno.EPERM, "not permitted")
+
+        for mode, expected in ((0o660, 0o660), (0o666, 0o666), (0o600, 0o600), (0o606, 0o600)):
+            with RandomAccessFile.create(self.path, KEY) as file, mock.patch.object(os, "fchown", of_the_group):
+                os.chmod(self.path, mode)
+                journal = file._journal.create()
+                self.assertEqual(os.fstat(journal).st_mode & 0o777, expected)
+                os.close(journal)
+            self.path.unlink()
+            pathlib.Path(file._journal.path).unlink()
+
     def test_threads(self) -> None:
         with RandomAccessFile.create(self.path, KEY) as file:
             def work(number: Any) -> Any:
