@@ -82,7 +82,9 @@ static int forgotten(int fd)
  */
 static int write_again(struct file *file, const uint8_t *journal, size_t length)
 {
-    int old = file->journal, copy = open(file->copy_path, O_RDWR | O_CREAT | O_TRUNC | O_NOFOLLOW, 0600);
+    int old = file->journal, copy;
+    unlink(file->copy_path);
+    copy = open(file->copy_path, O_RDWR | O_CREAT | O_EXCL, 0600);
     if (copy < 0 || !put(copy, journal, length, 0) || fsync(copy) != 0 ||
         rename(file->copy_path, file->journal_path) != 0 || fsync(file->folder) != 0) {
         return 0;
