@@ -1,13 +1,13 @@
 -- What a pass takes in, and its ciphertext, byte by byte and in pieces; and how a piece is cut into the part that fills
 -- the open block, whole rate blocks and a rest.
-use Rattle.std.proofs.Common.{◌≡◌, ◌∙◌, sym, ap, subst, refl, ℕ, zero, suc, ◌+◌, ◌-◌, ◌*◌, ◌/◌, ◌%◌, ◌<◌, ◌≤◌, List, [], ◌∷◌, ◌++◌, length, bit_xor, replicate, slice_index, arith}
+use Rattle.std.proofs.Common.{◌≡◌, ◌∙◌, sym, ap, subst, refl, ℕ, zero, suc, ◌+◌, ◌-◌, ◌*◌, ◌/◌, ◌%◌, ◌<◌, ◌≤◌, List, ◌++◌, length, bit_xor, replicate, slice_index, arith}
 use Rattle.std.proofs.Math.Nat.{div-mul-le_self, zero-div}
 use Rattle.std.proofs.lemmas.Bool.{cases_lt}
 use Rattle.std.proofs.lemmas.List.{length-append, length-replicate, replicate-append-replicate}
 use Rattle.std.proofs.lemmas.Nat.{div-add-mod', mod-mul-add, xor_comm}
 use Rattle.std.proofs.lemmas.Simd.{get_or-zip2, length-zip2}
 use Rattle.std.specs.Int.Bits.{xor_zero_l}
-use Rattle.aegis_aes.specs.Block.{bytes_at, xor}
+use Rattle.aegis_aes.specs.Block.{bytes_at}
 use Rattle.aegis_aes.specs.Lanes.{IsLaneCount}
 use Rattle.aegis_aes.proofs.Places.{bytes_at-is, get_or-bytes_at, length-bytes_at}
 use Rattle.aegis_base.specs.Context.{Encrypts, Held, IsUnopened, Takes, held_by}

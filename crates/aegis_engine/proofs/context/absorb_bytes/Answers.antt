@@ -1,5 +1,5 @@
 -- The part that fills the open block, the whole rate blocks and the rest follow each other.
-use Rattle.std.proofs.Common.{◌≡◌, ap, ℕ, ◌+◌, ◌-◌, ◌*◌, ◌/◌, ◌≤◌, List, length, arith}
+use Rattle.std.proofs.Common.{◌≡◌, ℕ, ◌+◌, ◌-◌, ◌*◌, ◌/◌, ◌≤◌, length, arith}
 use Rattle.std.proofs.Math.Nat.{div-mul-le_self}
 use Rattle.aegis_base.proofs.LaneFacts.{bytes_at-all}
 use Rattle.aegis_engine.proofs.PassFacts.{only-blocks, unopened-after}

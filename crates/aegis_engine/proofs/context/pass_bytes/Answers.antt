@@ -1,6 +1,6 @@
 -- The part that fills the open block, the whole rate blocks and the rest follow each other, and each leaves the others'
 -- bytes of the buffer unchanged.
-use Rattle.std.proofs.Common.{◌≡◌, ap, ℕ, ◌+◌, ◌-◌, ◌*◌, ◌/◌, ◌≤◌, List, length, arith}
+use Rattle.std.proofs.Common.{◌≡◌, ap, ℕ, ◌+◌, ◌-◌, ◌*◌, ◌/◌, ◌≤◌, length, arith}
 use Rattle.std.proofs.Math.Nat.{div-mul-le_self}
 use Rattle.aegis_base.specs.Context.{held_by}
 use Rattle.aegis_engine.specs.Pass.{IsPassed}

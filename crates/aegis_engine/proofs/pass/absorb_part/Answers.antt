@@ -2,7 +2,6 @@ use Rattle.std.proofs.Common.{◌≡◌, ◌∙◌, sym, ap, ◌+◌, ◌%◌, �
 use Rattle.aegis_aes.specs.Block.{bytes_at}
 use Rattle.aegis_aes.proofs.Places.{get_or-bytes_at, length-bytes_at}
 use Rattle.aegis_base.specs.Variant.{rate}
-use Rattle.aegis_base.proofs.ContextFacts.{IsKept}
 use Rattle.aegis_base.proofs.HeldFacts.{stands-full, stands-open}
 use Rattle.aegis_engine.proofs.pass.absorb_part.Goals as goal
 

@@ -1,8 +1,6 @@
-use Rattle.std.proofs.Common.{◌≡◌, ◌∙◌, sym, ap, subst, ℕ, ◌+◌, ◌*◌, ◌%◌, ◌++◌, List, append_assoc, length, refl, arith}
-use Rattle.std.proofs.lemmas.List.{append-nil}
+use Rattle.std.proofs.Common.{◌≡◌, ◌∙◌, sym, ℕ, ◌+◌, ◌*◌, ◌%◌, ◌++◌, List, append_assoc, length, arith}
 use Rattle.aegis_aes.specs.Block.{bytes_at}
 use Rattle.aegis_aes.proofs.Places.{get_or-bytes_at, length-bytes_at}
-use Rattle.aegis_base.specs.Context.{Stands}
 use Rattle.aegis_base.specs.Variant.{rate}
 use Rattle.aegis_base.proofs.HeldFacts.{stands-block}
 use Rattle.aegis_base.proofs.LaneFacts.{bytes_at-append}

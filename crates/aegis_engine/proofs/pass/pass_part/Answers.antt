@@ -1,4 +1,4 @@
-use Rattle.std.proofs.Common.{◌≡◌, ◌∙◌, sym, ap, ℕ, ◌+◌, length, refl, arith}
+use Rattle.std.proofs.Common.{◌≡◌, ◌∙◌, sym, ◌+◌, length, refl, arith}
 use Rattle.aegis_aes.specs.Block.{bytes_at}
 use Rattle.aegis_engine.proofs.PassFacts.{part-passed, zeros-read}
 use Rattle.aegis_engine.proofs.PieceFacts.{passed-none}

@@ -1,13 +1,12 @@
-use Rattle.std.proofs.Common.{◌≡◌, ◌∙◌, sym, ap, refl, ℕ, ◌+◌, ◌*◌, ◌%◌, ◌<◌, ◌++◌, List, length, bit_xor, slice_index, arith}
+use Rattle.std.proofs.Common.{◌≡◌, ◌∙◌, sym, refl, ℕ, ◌+◌, ◌*◌, ◌%◌, ◌<◌, List, length, bit_xor, slice_index, arith}
 use Rattle.aegis_aes.specs.Block.{IsSameBefore, IsSameFrom, bytes_at}
 use Rattle.aegis_aes.proofs.Places.{length-bytes_at}
-use Rattle.aegis_base.specs.Context.{held_by}
 use Rattle.aegis_base.specs.Lane.{update}
 use Rattle.aegis_base.specs.Message.{keystream_byte, share_at}
 use Rattle.aegis_base.specs.Variant.{rate}
 use Rattle.aegis_base.proofs.LaneFacts.{bytes_at-append, bytes_at-same}
 use Rattle.aegis_base.proofs.MessageFacts.{rate-positive}
-use Rattle.aegis_engine.specs.Pass.{IsPassed, absorbed}
+use Rattle.aegis_engine.specs.Pass.{absorbed}
 use Rattle.aegis_engine.proofs.PassFacts.{block-passed, block-start}
 use Rattle.aegis_engine.proofs.PieceFacts.{passed-more, passed-none}
 use Rattle.aegis_engine.proofs.pass.pass_whole.Goals as goal

@@ -1,4 +1,4 @@
-use Rattle.std.proofs.Common.{◌≡◌, ◌∙◌, ◌⊎◌, sym, ap, ⊎_elim, ℕ, ◌+◌, ◌-◌, ◌*◌, ◌/◌, ◌<◌, ◌≤◌, List, length, take, rules, arith}
+use Rattle.std.proofs.Common.{◌≡◌, ◌∙◌, ◌⊎◌, sym, ap, ⊎_elim, ℕ, ◌-◌, ◌*◌, ◌/◌, ◌<◌, ◌≤◌, List, length, take, rules, arith}
 use Rattle.aegis_aes.specs.Block.{bytes_at}
 use Rattle.aegis_aes.proofs.Places.{bytes_at-part}
 use Rattle.aegis_base.specs.Lane.{finalize, lane_tag}

@@ -1,6 +1,5 @@
 use Rattle.std.proofs.Common.{◌≡◌, ◌∙◌, sym, ap₂, ⊎_elim, ℕ, ◌+◌, ◌*◌, ◌<◌, ◌≤◌, ◌++◌, List, arith}
 use Rattle.std.proofs.lemmas.Bool.{cases_lt}
-use Rattle.aegis_aes.specs.Block.{bytes_at}
 use Rattle.aegis_base.proofs.LaneFacts.{bytes_at-append, bytes_at-same}
 use Rattle.aegis_engine.proofs.tag.lane_after_lane.Goals as goal
 
