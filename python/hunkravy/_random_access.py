@@ -3,6 +3,7 @@
 from __future__ import annotations
 
 import contextlib
+import dataclasses
 import errno
 import fcntl
 import operator
@@ -11,7 +12,7 @@ import stat
 import threading
 from collections.abc import Iterator
 from types import TracebackType
-from typing import TYPE_CHECKING, NamedTuple, Optional, Self, Union
+from typing import TYPE_CHECKING, Optional, Self, Union
 
 from . import _native, _turns as turns, _variants as variants
 from ._files import RawFile, bytes_of
@@ -44,7 +45,8 @@ CAUSES = {
 }
 
 
-class Savepoint(NamedTuple):
+@dataclasses.dataclass(frozen=True)
+class Savepoint:
     """What a batch that fails goes back to: the changed pages, the length and the commits at its beginning."""
 
     outer: Optional[Savepoint]
