@@ -74,7 +74,7 @@ use crate::exports::JOURNAL_NONCE_BYTES;
 use crate::memory::{with_room, zeros};
 use crate::wipe::wipe;
 use alloc::vec::Vec;
-use changes::{Changes, SealedChanges};
+use changes::{Changes, SealedChanges, copy_of};
 use core::fmt;
 use core::iter::once;
 use core::ops::Range;
@@ -107,8 +107,7 @@ pub const MAX_SIZE: u64 = 1 << 60;
 /// Changes are kept in memory until a commit: [`commit`](Raf::commit), [`sync`](Raf::sync), dropping, and any
 /// [`write`](Raf::write) or extending [`truncate`](Raf::truncate) that leaves them past the [limit](RafBuilder::buffer_limit).
 ///
-/// The pages that were read last are kept in memory, up to 64 KiB of them. After a commit the memory of its pages is kept for
-/// the next changes, up to 16 MiB.
+/// The pages that were read last are kept in memory, up to 64 KiB of them.
 ///
 /// **Dropping ignores the error of its commit**, so call `commit` first. After a change or a commit that has failed or panicked,
 /// dropping does not commit, until a `commit` succeeds or [`discard`](Raf::discard) is called. Dropping does not commit while its
@@ -279,7 +278,7 @@ impl<A: Algorithm, I: RafIo, R: RafRng, J: RafIo> Raf<A, I, R, J> {
             let page = &self.pages[..page_bytes];
             // One that is changed once more takes no memory.
             if count > 1 || !self.changes.replace(number, page) {
-                changed.push((number, self.changes.copy_of(page)?));
+                changed.push((number, copy_of(page)?));
             }
         }
         self.changes.append(changed)?;

@@ -14,13 +14,11 @@ use std::io::{self, ErrorKind};
 /// The number of bytes that a page takes beside its contents, at most.
 const ADDED_BYTES: u64 = 192;
 
-/// The number of bytes of written pages that are kept for the next changes, at most.
-const MOST_SPARE_BYTES: usize = 16 << 20;
-
 /// A page with its nonce in front of it and its tag after it. It is overwritten when it is dropped.
 pub type Page = Wiped<Vec<u8>>;
 
-fn copy_of(page: &[u8]) -> io::Result<Page> {
+/// Returns a copy of a page, or an error if memory runs out.
+pub fn copy_of(page: &[u8]) -> io::Result<Page> {
     let mut copy = with_room(page.len())?;
     copy.extend_from_slice(page);
     Ok(Wiped(copy))
@@ -29,27 +27,22 @@ fn copy_of(page: &[u8]) -> io::Result<Page> {
 /// Changed pages by their numbers, each with room for its nonce and its tag. A tree would be sorted, but takes its memory
 /// without a way to fail.
 #[derive(Default)]
-pub struct Changes {
-    pages: HashMap<u64, Page>,
-    /// Pages of the last commit, all of one length. If their memory were freed, the system would take it back, and clear it for
-    /// the next changes.
-    spare: Vec<Page>,
-}
+pub struct Changes(HashMap<u64, Page>);
 
 impl Changes {
     /// Returns whether no page was changed.
     pub fn is_empty(&self) -> bool {
-        self.pages.is_empty()
+        self.0.is_empty()
     }
 
     /// Returns how many pages were changed.
     pub fn len(&self) -> usize {
-        self.pages.len()
+        self.0.len()
     }
 
     /// Returns a page that was changed.
     pub fn get(&self, number: u64) -> Option<&[u8]> {
-        self.pages.get(&number).map(|page| &*page.0)
+        self.0.get(&number).map(|page| &*page.0)
     }
 
     /// Returns how many pages from this number on are unchanged, at most this many.
@@ -57,14 +50,14 @@ impl Changes {
         if self.is_empty() {
             return most;
         }
-        let is_changed = |count: &u64| self.pages.contains_key(&(number + count));
+        let is_changed = |count: &u64| self.0.contains_key(&(number + count));
         (0..most).find(is_changed).unwrap_or(most)
     }
 
     /// Returns the numbers of the pages, the lowest first.
     pub fn numbers(&self) -> io::Result<Vec<u64>> {
         let mut numbers = with_room(self.len())?;
-        numbers.extend(self.pages.keys());
+        numbers.extend(self.0.keys());
         numbers.sort_unstable();
         Ok(numbers)
     }
@@ -77,33 +70,24 @@ impl Changes {
         Ok(())
     }
 
-    /// Returns a copy of a page, or an error if memory runs out.
-    pub fn copy_of(&mut self, page: &[u8]) -> io::Result<Page> {
-        let Some(mut copy) = self.spare.pop() else {
-            return copy_of(page);
-        };
-        copy.0.copy_from_slice(page);
-        Ok(copy)
-    }
-
     /// Replaces a page that was changed. Returns whether there is one.
     pub fn replace(&mut self, number: u64, page: &[u8]) -> bool {
-        let own = self.pages.get_mut(&number);
+        let own = self.0.get_mut(&number);
         own.map(|own| own.0.copy_from_slice(page)).is_some()
     }
 
     /// Takes over pages, in place of those of the same numbers. If memory runs out nothing has changed.
     pub fn append(&mut self, pages: Vec<(u64, Page)>) -> io::Result<()> {
-        let reserved = self.pages.try_reserve(pages.len());
+        let reserved = self.0.try_reserve(pages.len());
         reserved.map_err(|_| ErrorKind::OutOfMemory)?;
-        self.pages.extend(pages);
+        self.0.extend(pages);
         Ok(())
     }
 
     /// Returns a copy of all pages.
     pub fn try_clone(&self) -> io::Result<Self> {
         let mut pages = with_room(self.len())?;
-        for (number, page) in &self.pages {
+        for (number, page) in &self.0 {
             pages.push((*number, copy_of(&page.0)?));
         }
         let mut copy = Changes::default();
@@ -113,12 +97,12 @@ impl Changes {
 
     /// Forgets the pages from this number on.
     pub fn cut(&mut self, number: u64) {
-        self.pages.retain(|own, _| *own < number);
+        self.0.retain(|own, _| *own < number);
     }
 
     /// Forgets all pages.
     pub fn clear(&mut self) {
-        self.pages.clear();
+        self.0.clear();
     }
 }
 
@@ -144,7 +128,7 @@ impl<'c, A: Algorithm> SealedChanges<'c, A> {
             numbers: &[],
         };
         for (at, (number, nonce)) in numbers.iter().zip(nonces).enumerate() {
-            if let Some(page) = sealed.changes.pages.get_mut(number) {
+            if let Some(page) = sealed.changes.0.get_mut(number) {
                 layout.seal(*number, nonce, &mut page.0);
             }
             sealed.numbers = &numbers[..=at];
@@ -165,22 +149,21 @@ impl<'c, A: Algorithm> SealedChanges<'c, A> {
     /// Forgets the pages, which were written. They are not overwritten, since they are encrypted.
     pub fn forget(mut self) {
         self.numbers = &[];
-        let most = MOST_SPARE_BYTES / self.layout.page_bytes();
-        let Changes { pages, spare } = &mut *self.changes;
-        for (_, mut page) in pages.drain() {
-            if spare.len() < most && spare.try_reserve(1).is_ok() {
-                spare.push(page);
-            } else {
-                drop(mem::take(&mut page.0));
-            }
+        let bytes = self.changes.len() * self.layout.page_bytes();
+        for page in self.changes.0.values_mut() {
+            drop(mem::take(&mut page.0));
         }
+        self.changes.clear();
+        // glibc gives freed memory back to the system, which clears it for the next changes. But it keeps as much as was once
+        // freed in one piece.
+        let _ = black_box(with_room::<u8>(bytes));
     }
 }
 
 impl<A: Algorithm> Drop for SealedChanges<'_, A> {
     fn drop(&mut self) {
         for number in self.numbers {
-            let page = self.changes.pages.get_mut(number);
+            let page = self.changes.0.get_mut(number);
             let is_opened = page.is_some_and(|page| self.layout.open(*number, &mut page.0));
             // Otherwise a later commit would write an erased page.
             assert!(is_opened, "nobody else has the page");
