@@ -81,6 +81,9 @@ class Contents(Scene):
         text = read("text")
         stream, remote = socket.SOCK_STREAM, socket.create_server(("127.0.0.1", 0))
         pairs = [socket.socketpair(socket.AF_UNIX, stream)]
+        # Other sockets may have names that are not UTF-8.
+        for number in range(40):
+            self.enterContext(socket.socket(socket.AF_UNIX)).bind(b"\xff%d" % number)
         with remote:
             sender = socket.create_connection(remote.getsockname())
             pairs.append((remote.accept()[0], sender))

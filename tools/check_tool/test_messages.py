@@ -59,6 +59,7 @@ MESSAGES = (
     ("mkfifo pipe; $TOOL seal --force -k key small pipe <> pipe", 3,
      r"hunkravy: pipe is the pipe of standard input, so what is written would be lost: give another OUT"),
     ("$TOOL seal --force -k key small key", 3, r"hunkravy: key is the key file key: writing it would destroy the key"),
+    ("$TOOL seal -k key key out", 3, r"hunkravy: key is the key file key: the input must be another file"),
     ("$TOOL open -k key longer > new", 1,
      r"hunkravy: longer is damaged: bytes follow its last record\nhunkravy: the output is incomplete: discard it"),
     ("script -qec '$TOOL seal -k key small' /dev/null", 3,

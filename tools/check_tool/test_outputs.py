@@ -66,6 +66,15 @@ PIPED_KEYS = (
     "$TOOL seal -k key --force small copy",
 )
 
+# The key and the input are one file, or one pipe, of which nothing is left after the key.
+KEYS_AS_INPUTS = (
+    "cat key | $TOOL seal --force -k /dev/stdin - sealed",
+    "cat key | $TOOL seal --force -k - /dev/stdin sealed",
+    "cat key | $TOOL rekey --force -k key -n /dev/stdin - sealed",
+    "$TOOL seal --force -k /dev/stdin /proc/self/fd/0 sealed < key",
+    "$TOOL seal --force -k key name sealed",
+)
+
 # Standard error leads to what is read, where no message may go. Most of these would have one.
 UNSAID = (
     "check -k key sealed &>> key",
@@ -106,6 +115,10 @@ class Outputs(Scene):
         for command in PIPED_KEYS:
             with self.subTest(command):
                 self.shell(3, command, "is the key file")
+                self.assertTrue(snapshot() == before)
+        for command in KEYS_AS_INPUTS:
+            with self.subTest(command):
+                self.shell(3, command, "the input must be another file")
                 self.assertTrue(snapshot() == before)
         for command in UNSAID:
             with self.subTest(command):

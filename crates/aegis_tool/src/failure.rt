@@ -70,6 +70,8 @@ pub enum Failure<'a> {
     OwnPipe(Name<'a>),
     #[error("{0} is the key file {1}: writing it would destroy the key")]
     OverKey(Name<'a>, Name<'a>),
+    #[error("{0} is the key file {1}: the input must be another file")]
+    KeyAsInput(Name<'a>, Name<'a>),
     #[error("standard output is a terminal: give a file as OUT, redirect with >, or give - to print")]
     Terminal,
     #[error("the contents are not printable text: give a file as OUT, redirect with >, or give - to print")]

@@ -133,6 +133,21 @@ pub fn refuse_inputs<'a>(
     Ok(())
 }
 
+/// Returns an error if the input is the key file, under any of their names: a pipe has nothing left after the key.
+pub fn refuse_key<'a>(
+    rt: &HostRuntime,
+    input: Place<'a>,
+    key: &KeyFile<'a>,
+) -> Result<(), Failure<'a>> {
+    match (identity_of(rt, input), key.identity(rt)) {
+        (Ok(Some(read)), Ok(Some(own))) if read == own => Err(Failure::KeyAsInput(
+            input.input_name(),
+            key.name,
+        )),
+        _ => Ok(()),
+    }
+}
+
 /// Returns whether the output is a terminal or any other character device.
 pub fn is_terminal(rt: &HostRuntime, output: Place<'_>) -> bool {
     match output {

@@ -5,7 +5,7 @@ use std::alloc::AllocError;
 use std::fs::File;
 use std::io::{BufRead, BufReader};
 use std::os::unix::fs::{FileTypeExt, MetadataExt};
-use std::{fs, io};
+use std::{fs, io, str};
 
 // A word of a line, by its place.
 #[derive(Clone, Copy)]
@@ -22,8 +22,13 @@ fn has(line: &str, words: &[Word<'_>]) -> bool {
 // Whether a table of the system has a line with these words.
 fn is_listed(rt: &HostRuntime, table: &str, words: &[Word<'_>]) -> io::Result<bool> {
     let file = File::open(rt, table)?;
-    for line in BufReader::new(rt.alloc(), file)?.lines(rt.alloc()) {
-        if has(line?.as_str(), words) {
+    for line in BufReader::new(rt.alloc(), file)?.split(rt.alloc(), b'\n') {
+        let line = line?;
+        // The name of another socket need not be UTF-8.
+        let Ok(text) = str::from_utf8(&line) else {
+            continue;
+        };
+        if has(text, words) {
             return Ok(true);
         }
     }

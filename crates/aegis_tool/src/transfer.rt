@@ -5,8 +5,8 @@ use crate::failure::{Failure, PartError, Seen, Stopped, printed};
 use crate::key;
 use crate::key::KeyFile;
 use crate::output::{
-    Target, is_terminal, open_target, refuse_errors, refuse_inputs, refuse_own_descriptor,
-    refuse_terminal,
+    Target, is_terminal, open_target, refuse_errors, refuse_inputs, refuse_key,
+    refuse_own_descriptor, refuse_terminal,
 };
 use crate::progress::{Counted, Display, Measured};
 use crate::range::{Start, is_reachable, start_of};
@@ -247,12 +247,16 @@ fn transfer<'a>(
     }
 }
 
-// Reads the key, which may come from standard input only if the input does not.
+// Reads the key, which may not come from the input.
 fn key_of<'a>(rt: &HostRuntime, paths: Transfer<'a>) -> Result<KeyFile<'a>, Failure<'a>> {
-    match paths.input {
-        Place::Default | Place::Standard if paths.key == key::STANDARD => Err(Failure::StandardKey),
-        _ => key::read(rt, paths.key, paths.quiet),
-    }
+    let key = match paths.input {
+        Place::Default | Place::Standard if paths.key == key::STANDARD => {
+            return Err(Failure::StandardKey);
+        }
+        _ => key::read(rt, paths.key, paths.quiet)?,
+    };
+    refuse_key(rt, paths.input, &key)?;
+    Ok(key)
 }
 
 // Generates the prefix of a new sealed file.
