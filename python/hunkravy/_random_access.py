@@ -3,7 +3,6 @@
 from __future__ import annotations
 
 import contextlib
-import dataclasses
 import errno
 import fcntl
 import operator
@@ -12,7 +11,7 @@ import stat
 import threading
 from collections.abc import Iterator
 from types import TracebackType
-from typing import TYPE_CHECKING, Optional, Self, Union
+from typing import TYPE_CHECKING, Any, ContextManager, Optional, Self, Union
 
 from . import _native, _turns as turns, _variants as variants
 from ._files import RawFile, bytes_of
@@ -45,14 +44,13 @@ CAUSES = {
 }
 
 
-@dataclasses.dataclass(frozen=True)
 class Savepoint:
     """What a batch that fails goes back to: the changed pages, the length and the commits at its beginning."""
 
-    outer: Optional[Savepoint]
-    changes: dict[int, bytes]
-    size: int
-    counter: int
+    def __init__(self, outer: Optional[Savepoint], changes: dict[int, bytes], size: int, counter: int) -> None:
+        self.outer, self.changes, self.size, self.counter = outer, changes, size, counter
+        # Those of the batches that it is in, and itself.
+        self.chain: tuple[Savepoint, ...] = (*(outer.chain if outer is not None else ()), self)
 
 
 class RandomAccessError(ValueError):
@@ -103,9 +101,14 @@ def read_at(descriptor: int, length: int, place: int) -> bytearray:
     return found
 
 
+def open_folder(path: str) -> int:
+    """Opens the folder of a path."""
+    return os.open(os.path.dirname(path), os.O_RDONLY | os.O_DIRECTORY | os.O_CLOEXEC)
+
+
 def sync_folder(path: str) -> None:
     """Syncs the folder of a path, which has its name."""
-    folder = os.open(os.path.dirname(path), os.O_RDONLY | os.O_DIRECTORY | os.O_CLOEXEC)
+    folder = open_folder(path)
     try:
         os.fsync(folder)
     finally:
@@ -157,7 +160,8 @@ class Journal:
     def remove_empty(self) -> None:
         """Removes one that a crash has left empty, if it can be."""
         with contextlib.suppress(OSError):
-            if os.lstat(self.path).st_size == 0:
+            found = os.lstat(self.path)
+            if stat.S_ISREG(found.st_mode) and found.st_size == 0:
                 os.unlink(self.path)
 
     def create(self) -> int:
@@ -168,17 +172,21 @@ class Journal:
     def _create(self, path: str) -> int:
         """Makes a file with the owner, the group and the permissions of the file, as far as the system allows."""
         made = os.open(path, os.O_RDWR | os.O_CREAT | os.O_EXCL | os.O_CLOEXEC, 0o600)
-        of = os.fstat(self._file)
         try:
-            os.fchown(made, of.st_uid, of.st_gid)
-        except PermissionError:
+            of = os.fstat(self._file)
+            try:
+                os.fchown(made, of.st_uid, of.st_gid)
+            except PermissionError:
+                with contextlib.suppress(PermissionError):
+                    os.fchown(made, -1, of.st_gid)
+            # In another group its members get the permissions that both the group and the others have.
+            others = of.st_mode & of.st_mode >> 3 & 0o006
+            group = of.st_mode & 0o060 if os.fstat(made).st_gid == of.st_gid else others << 3
             with contextlib.suppress(PermissionError):
-                os.fchown(made, -1, of.st_gid)
-        # In another group its members get the permissions that both the group and the others have.
-        others = of.st_mode & of.st_mode >> 3 & 0o006
-        group = of.st_mode & 0o060 if os.fstat(made).st_gid == of.st_gid else others << 3
-        with contextlib.suppress(PermissionError):
-            os.fchmod(made, 0o600 | group | others)
+                os.fchmod(made, 0o600 | group | others)
+        except BaseException:
+            os.close(made)
+            raise
         return made
 
     def write_again(self, content: _ReadableBuffer) -> None:
@@ -192,11 +200,17 @@ class Journal:
             os.unlink(copy)
         made = self._create(copy)
         try:
-            write_all(made, memoryview(content), 0)
-            os.fsync(made)
-        finally:
-            os.close(made)
-        os.replace(copy, self.path)
+            try:
+                write_all(made, memoryview(content), 0)
+                os.fsync(made)
+            finally:
+                os.close(made)
+            os.replace(copy, self.path)
+        except BaseException:
+            # In a sticky folder it would keep out the user who may replace the journal.
+            with contextlib.suppress(OSError):
+                os.unlink(copy)
+            raise
         sync_folder(self.path)
 
     def remove(self, descriptor: int) -> None:
@@ -261,7 +275,7 @@ class RandomAccessFile(variants.Secret, turns.Turns):
             os.fsync(self._file)
             sync_folder(self._path)
         except BaseException:
-            os.unlink(self._path)
+            self._remove_new()
             self._drop()
             raise
         return self
@@ -293,7 +307,7 @@ class RandomAccessFile(variants.Secret, turns.Turns):
             self._check_name()
         except BaseException as error:
             if is_new:
-                os.unlink(self._path)
+                self._remove_new()
             self._drop()
             if isinstance(error, BlockingIOError):
                 raise RandomAccessError("locked") from None
@@ -447,12 +461,17 @@ class RandomAccessFile(variants.Secret, turns.Turns):
         self._reserve(writes[-2][0] + len(writes[-2][1]))
         if self._journal.size():
             raise RandomAccessError("journal")
-        journal = self._journal.create()
+        # Before anything is written: a user may be able to write a folder, and not to read it.
+        folder = open_folder(self._path)
         try:
-            self._is_broken = True
-            self._make(journal, writes)
+            journal = self._journal.create()
+            try:
+                self._is_broken = True
+                self._make(journal, folder, writes)
+            finally:
+                os.close(journal)
         finally:
-            os.close(journal)
+            os.close(folder)
         # A signal before this leaves the file broken, although its commit is made.
         self._counter, self._stored, self._changes, self._is_broken = self._counter + 1, self._size, {}, False
 
@@ -464,9 +483,19 @@ class RandomAccessFile(variants.Secret, turns.Turns):
     def _discard(self) -> None:
         self._changes, self._size, self._undo = {}, self._stored, None
 
-    def _next_batch(self) -> threading.RLock:
-        """Returns the lock of batches, which the thread of an open one has."""
+    def _next_batch(self) -> ContextManager[Any]:
+        """Returns the lock of batches, which the thread of an open one has.
+
+        After a fork a thread of the other process may have both locks for ever, and the file is of no use here.
+        """
+        if self._process != process():
+            return contextlib.nullcontext()
         return turns.waited_for(self._batches)
+
+    def _turn(self) -> ContextManager[Any]:
+        if self._process != process():
+            return contextlib.nullcontext()
+        return super()._turn()
 
     @contextlib.contextmanager
     def batch(self) -> Iterator[Self]:
@@ -484,22 +513,22 @@ class RandomAccessFile(variants.Secret, turns.Turns):
             try:
                 self._batch = own
                 yield self
+                if self._batch is not own:
+                    raise RuntimeError("a batch in this one has not ended, or the one that it is in has")
                 if own.outer is None:
                     self.commit()
-            except BaseException:
-                # A block that a signal left open ends when it is freed, perhaps after the batch that it is in.
-                if self._batch is own:
-                    self._go_back(own)
-                raise
-            finally:
-                if self._batch is own or own.outer is None:
+            except BaseException as error:
+                # Nothing is called here, so no signal leaves it half done. A block that a signal has left is freed without an end,
+                # perhaps after others have ended in it. It stays open, and closing the file raises an error.
+                is_freed = error.__class__ is GeneratorExit and error.__traceback__.tb_next is None  # type: ignore[union-attr]
+                if not is_freed and self._batch is not None and own in self._batch.chain:
+                    if own.counter == self._counter:
+                        self._changes, self._size, self._undo = own.changes, own.size, None
+                    else:
+                        self._changes, self._size, self._undo = {}, self._stored, None
                     self._batch = own.outer
-
-    def _go_back(self, batch: Savepoint) -> None:
-        if batch.counter == self._counter:
-            self._changes, self._size, self._undo = batch.changes, batch.size, None
-        else:
-            self._discard()
+                raise
+            self._batch = own.outer
 
     def _writes(self) -> list[tuple[int, bytes]]:
         """Returns the writes of a commit: the old header, the changed pages, and the next header."""
@@ -526,12 +555,12 @@ class RandomAccessFile(variants.Secret, turns.Turns):
                 os.ftruncate(self._file, size)
                 raise
 
-    def _make(self, journal: int, writes: list[tuple[int, bytes]]) -> None:
+    def _make(self, journal: int, folder: int, writes: list[tuple[int, bytes]]) -> None:
         """Writes the journal, then makes the writes, and then removes the journal, each with a sync."""
         state, start = self._cipher.begin_journal(self._page_size, self._id, os.urandom(JOURNAL_NONCE_BYTES))
         write_all(journal, start[:BEGINNING_BYTES], 0)
         os.fsync(journal)
-        sync_folder(self._path)
+        os.fsync(folder)
         parts = [start[BEGINNING_BYTES:]]
         for place, data in writes:
             parts += [state.entry(place, data), data]
@@ -614,6 +643,12 @@ class RandomAccessFile(variants.Secret, turns.Turns):
         if own.st_nlink != 1 or not os.path.samestat(own, found):
             raise RandomAccessError("moved")
 
+    def _remove_new(self) -> None:
+        """Removes the file that was made, unless another file has its name by now."""
+        with contextlib.suppress(RandomAccessError):
+            self._check_name()
+            os.unlink(self._path)
+
     def close(self) -> None:
         """Commits the changes, and closes the file. In another process than the one that opened it, it only closes it.
 
@@ -635,13 +670,14 @@ class RandomAccessFile(variants.Secret, turns.Turns):
         # A signal that comes while it is closed does not have it closed once more.
         file, self._file = self._file, -1
         self._changes = {}
-        self.__dict__.pop("_cipher", None)
+        # Nothing is called before this, so no signal leaves the file open and locked.
         try:
             if self._process == process():
                 # A process that was forked may keep another descriptor of it.
                 fcntl.flock(file, fcntl.LOCK_UN)
         finally:
             os.close(file)
+            self.__dict__.pop("_cipher", None)
 
     def __enter__(self) -> Self:
         self._check()

@@ -1,6 +1,7 @@
 """Random-access files: what a crash leaves, locks and moved files, batches, and file objects over them."""
 
 import contextlib
+import dis
 import errno
 import fcntl
 import io
@@ -8,12 +9,14 @@ import itertools
 import os
 import pathlib
 import random
+import signal
+import sys
 import tarfile
 import tempfile
 import threading
 import unittest
 import zipfile
-from collections.abc import Callable
+from collections.abc import Callable, Generator
 from typing import Any
 from unittest import mock
 
@@ -23,6 +26,45 @@ KEY = bytes(range(32))
 BEFORE = b"before" * 60
 AFTER = b"and after" * 60
 PAGE = 256
+
+
+def interrupted_at(number: int, call: Callable[[], object], *files: str) -> bool:
+    """Makes a call, and raises KeyboardInterrupt in it where Python calls the handler of a signal: at the start of a function
+    and after a call, in these files, at the place of this number. Returns whether there is one.
+    """
+    seen = 0
+    after_calls: dict[Any, set[int]] = {}
+
+    def at_a_place() -> None:
+        nonlocal seen
+        seen += 1
+        if seen == number:
+            sys.settrace(None)
+            raise KeyboardInterrupt
+
+    def trace(frame: Any, event: str, argument: Any) -> Any:
+        code = frame.f_code
+        if not code.co_filename.endswith(files):
+            return None
+        frame.f_trace_lines, frame.f_trace_opcodes = False, True
+        if event == "call":
+            at_a_place()
+        elif event == "opcode":
+            if code not in after_calls:
+                found = list(dis.get_instructions(code))
+                after_calls[code] = {after.offset for call, after in zip(found, found[1:]) if call.opname.startswith("CALL")}
+            if frame.f_lasti in after_calls[code]:
+                at_a_place()
+        return trace
+
+    sys.settrace(trace)
+    try:
+        call()
+    except KeyboardInterrupt:
+        pass
+    finally:
+        sys.settrace(None)
+    return seen >= number
 
 
 class Stopped(Exception):
@@ -298,16 +340,131 @@ class Files(unittest.TestCase):
         del file
         self.assertEqual(contents(self.path), b"first, second")
 
-    def test_a_batch_that_ends_after_its_outer_one(self) -> None:
+    def test_a_batch_that_ends_before_one_in_it(self) -> None:
         with RandomAccessFile.create(self.path, KEY) as file:
-            with file.batch():
-                file.write_at(0, b"first")
+            with self.assertRaisesRegex(RuntimeError, "has not ended"), file.batch():
+                file.write_at(0, b"lost")
                 inner = file.batch()
                 inner.__enter__()
-            file.write_at(0, b"second")
+            file.write_at(0, b"kept")
             del inner
-            self.assertEqual(file.read_at(0, 99), b"second")
-        self.assertEqual(contents(self.path), b"second")
+            self.assertEqual(file.read_at(0, 99), b"kept")
+        self.assertEqual(contents(self.path), b"kept")
+
+    def test_a_batch_that_fails_before_one_in_it_has_ended(self) -> None:
+        with RandomAccessFile.create(self.path, KEY) as file:
+            file.write_at(0, b"before")
+            left_open = []
+            with self.assertRaises(ZeroDivisionError), file.batch():
+                for change in (b"lost", b"lost too"):
+                    left_open.append(file.batch())
+                    left_open[-1].__enter__()
+                    file.write_at(0, change)
+                    file.truncate(3)
+                1 / 0
+            self.assertEqual(file.read_at(0, 99), b"before")
+            file.write_at(6, b" and after")
+            del left_open
+            with file.batch():
+                self.assertEqual(file.read_at(0, 99), b"before and after")
+        self.assertEqual(contents(self.path), b"before and after")
+
+    def test_signals_in_batches_in_others(self) -> None:
+        places = (0, 1000, 2000)
+
+        def change(file: RandomAccessFile) -> None:
+            with file.batch():
+                for place in places:
+                    with file.batch():
+                        file.write_at(place, b"after.")
+
+        for number in itertools.count(1):
+            path = self.path.with_name(str(number))
+            file = RandomAccessFile.create(path, KEY, page_size=PAGE)
+            with file.batch():
+                for place in places:
+                    file.write_at(place, b"before")
+            was_interrupted = interrupted_at(number, lambda: change(file), "contextlib.py", "_random_access.py")
+            with contextlib.suppress(RandomAccessError), file.batch():
+                pass
+            # One that was left open may have changes.
+            with contextlib.suppress(RuntimeError):
+                file.close()
+            with RandomAccessFile(path, KEY) as file:
+                self.assertEqual(len({file.read_at(place, 6) for place in places}), 1, number)
+            if not was_interrupted:
+                break
+        self.assertGreater(number, 100)
+
+    def test_signals_in_closing(self) -> None:
+        for number in itertools.count(1):
+            path = self.path.with_name(str(number))
+            file = RandomAccessFile.create(path, KEY)
+            file.write_at(0, b"x")
+            was_interrupted = interrupted_at(number, file.close, "_random_access.py")
+            file.close()
+            RandomAccessFile(path, KEY).close()
+            if not was_interrupted:
+                break
+
+    def test_a_creation_that_finds_another_file_in_its_place(self) -> None:
+        def replaced(*arguments: Any) -> Any:
+            other.write_bytes(b"precious")
+            os.replace(other, self.path)
+            raise OSError(errno.EIO, "stopped")
+
+        other = self.path.with_name("other")
+        for module, name in ((fcntl, "flock"), (os, "fsync")):
+            with mock.patch.object(module, name, replaced), self.assertRaises(OSError):
+                RandomAccessFile.create(self.path, KEY)
+            self.assertEqual(self.path.read_bytes(), b"precious")
+            self.path.unlink()
+
+    def test_a_journal_that_is_no_file(self) -> None:
+        RandomAccessFile.create(self.path, KEY).close()
+        journal = self.path.with_name(self.path.name + ".journal")
+        os.mkfifo(journal)
+        with RandomAccessFile(self.path, KEY) as file:
+            file.write_at(0, b"kept")
+            self.assertRaises(FileExistsError, file.commit)
+            self.assertTrue(journal.is_fifo())
+            journal.unlink()
+        self.assertEqual(contents(self.path), b"kept")
+
+    def test_a_folder_that_cannot_be_read(self) -> None:
+        def refused(path: Any, flags: int, *mode: int) -> int:
+            if flags & os.O_DIRECTORY:
+                raise PermissionError(errno.EACCES, "refused", path)
+            return opened(path, flags, *mode)
+
+        opened = os.open
+        with RandomAccessFile.create(self.path, KEY) as file:
+            file.write_at(0, b"kept")
+            with mock.patch.object(os, "open", refused), self.assertRaises(PermissionError):
+                file.commit()
+            self.assertEqual(file.read_at(0, 9), b"kept")
+        self.assertEqual(contents(self.path), b"kept")
+
+    def test_a_copy_of_a_journal_that_cannot_replace_it(self) -> None:
+        left = pathlib.Path(f"{self.path}.jrncopy")
+        with RandomAccessFile.create(self.path, KEY) as file:
+            file.write_at(0, b"after")
+            with mock.patch.object(_random_access, "write_all", self.stopped_at_the_file(file)), self.assertRaises(Stopped):
+                file.commit()
+        with mock.patch.object(os, "replace", side_effect=PermissionError), self.assertRaises(PermissionError):
+            RandomAccessFile(self.path, KEY)
+        self.assertFalse(left.exists())
+        self.assertEqual(contents(self.path), b"after")
+
+    @staticmethod
+    def stopped_at_the_file(file: RandomAccessFile) -> Callable[..., None]:
+        def write(descriptor: int, data: Any, place: int) -> None:
+            if descriptor == file._file:
+                raise Stopped
+            written(descriptor, data, place)
+
+        written = _random_access.write_all
+        return write
 
     def test_a_batch_that_is_left_open(self) -> None:
         file = RandomAccessFile.create(self.path, KEY)
@@ -315,6 +472,7 @@ class Files(unittest.TestCase):
         batch.__enter__()
         with file.batch():
             file.write_at(0, b"lost")
+        del batch
         with self.assertRaisesRegex(RuntimeError, "changes are discarded"):
             file.close()
         self.assertTrue(file.closed)
@@ -353,6 +511,47 @@ class Files(unittest.TestCase):
         self.assertCause("locked", RandomAccessFile, self.path, KEY)
         file.close()
         self.assertEqual(contents(self.path), b"of the parent")
+
+    def test_a_fork_while_another_thread_is_in_a_batch(self) -> None:
+        def hold() -> None:
+            with file.batch():
+                begun.set()
+                forked.wait()
+
+        begun, forked = threading.Event(), threading.Event()
+        file = RandomAccessFile.create(self.path, KEY)
+        thread = threading.Thread(target=hold)
+        thread.start()
+        begun.wait()
+        child = os.fork()
+        if child == 0:
+            signal.alarm(10)
+            try:
+                for call in (lambda: file.read_at(0, 1), lambda: file.write_at(0, b"x"), file.commit, file.batch().__enter__):
+                    self.assertCause("locked", call)
+                file.close()
+            except BaseException:
+                os._exit(1)
+            os._exit(0)
+        self.assertEqual(os.waitpid(child, 0)[1], 0)
+        forked.set()
+        thread.join()
+        file.close()
+
+    def test_a_batch_that_ends_after_one_that_failed(self) -> None:
+        def change(place: int) -> Generator[None, None, None]:
+            with file.batch():
+                file.write_at(place, b"half")
+                yield
+                file.write_at(place + 4, b"half")
+
+        with RandomAccessFile.create(self.path, KEY) as file:
+            first, second = change(0), change(8)
+            next(first)
+            next(second)
+            self.assertRaises(ZeroDivisionError, first.throw, ZeroDivisionError)
+            self.assertEqual(file.size, 0)
+            self.assertRaisesRegex(RuntimeError, "the one that it is in has", next, second)
 
     def test_a_close_in_a_process_that_was_forked(self) -> None:
         file = RandomAccessFile.create(self.path, KEY)
