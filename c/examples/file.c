@@ -86,11 +86,13 @@ static int write_again(struct file *file, const uint8_t *journal, size_t length)
     unlink(file->copy_path);
     copy = open(file->copy_path, O_RDWR | O_CREAT | O_EXCL, 0600);
     if (copy < 0 || !put(copy, journal, length, 0) || fsync(copy) != 0 ||
-        rename(file->copy_path, file->journal_path) != 0 || fsync(file->folder) != 0) {
+        rename(file->copy_path, file->journal_path) != 0) {
+        /* In a sticky folder it would keep out the user who may replace the journal. */
+        unlink(file->copy_path);
         return 0;
     }
     file->journal = copy;
-    return close(old) == 0;
+    return fsync(file->folder) == 0 && close(old) == 0;
 }
 
 /* Makes the writes of an interrupted commit again, the `left` bytes at `write`. */
@@ -223,7 +225,7 @@ static int begin(struct file *file, const char *key_path, const char *path)
     if (fcntl(file->fd, F_SETLK, &whole) != 0) {
         return 0;
     }
-    file->journal = open(file->journal_path, O_RDWR | O_CREAT, 0600);
+    file->journal = open(file->journal_path, O_RDWR | O_CREAT | O_NOFOLLOW, 0600);
     return fsync(file->folder) == 0 && open_file(file);
 }
 
@@ -233,13 +235,14 @@ int main(int count, char **arguments)
     struct write writes[3];
     uint8_t page[PAGE_BYTES] = {0};
     uint64_t number;
+    char *rest;
     int result = 0;
     if (count != 4 && (count != 5 || strlen(arguments[4]) > SIZE)) {
         puts("usage: file KEYFILE FILE NUMBER [TEXT]");
         return count > 2 ? EXIT_FAILURE : EXIT_SUCCESS;
     }
-    number = strtoull(arguments[3], NULL, 10);
-    if (!begin(&file, arguments[1], arguments[2]) || number >= file.length / SIZE + (count == 5)) {
+    number = strtoull(arguments[3], &rest, 10);
+    if (rest == arguments[3] || *rest != 0 || !begin(&file, arguments[1], arguments[2]) || number >= file.length / SIZE + (count == 5)) {
         fputs("file: check KEYFILE, FILE and NUMBER\n", stderr);
     } else if (count == 5) {
         uint64_t end = (number + 1) * SIZE;
