@@ -10,8 +10,8 @@ SIZES = {"64 bytes": "#c6dbef", "1 KiB": "#9ecae1", "16 KiB": "#4292c6", "1 MiB"
 NAMES = {
     "libsodium ChaCha20-Poly1305": "ChaCha20-Poly1305",
     "libsodium AES-256-GCM, AES instructions": "AES-256-GCM (AES-NI)",
-    "libsodium AEGIS-128L, software": "libsodium AEGIS-128L",
-    "libsodium AEGIS-256, software": "libsodium AEGIS-256",
+    "libsodium AEGIS-128L, software": "libsodium 128L (no AES-NI)",
+    "libsodium AEGIS-256, software": "libsodium 256 (no AES-NI)",
 }
 
 

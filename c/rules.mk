@@ -279,8 +279,8 @@ check-install: | $(OUT) $(if $(filter aarch64,$(FOLDER)),gcc-aarch64-linux-gnu q
 			cmake -S $(OUT)/cmake -B $(OUT)/cmake/build "-DASKED=$$1" \
 				-DCMAKE_PREFIX_PATH="$(PREFIX);$(LIBRARIES)" > /dev/null 2> $(OUT)/cmake/said; \
 		} && \
-		for asked in 1.0 $(VERSION).1 '0.0.1;EXACT'; do ! finds $$asked || exit 1; done && \
-		for asked in '' 0.0.1 '$(VERSION);EXACT' $(VERSION); do finds "$$asked" || { cat $(OUT)/cmake/said; exit 1; }; done && \
+		for asked in 1.0 0.0.1 $(VERSION).1 '0.0.1;EXACT'; do ! finds $$asked || exit 1; done && \
+		for asked in '' $(basename $(VERSION)) '$(VERSION);EXACT' $(VERSION); do finds "$$asked" || { cat $(OUT)/cmake/said; exit 1; }; done && \
 		cmake --build $(OUT)/cmake/build > /dev/null && \
 		$(OUT)/cmake/build/seal-hunkravy && $(OUT)/cmake/build/seal-static; \
 	else \

@@ -10,6 +10,7 @@
 #include <stdlib.h>
 #include <string.h>
 #include <sys/random.h>
+#include <unistd.h>
 
 #define KEY_BYTES HUNKRAVY_AEGIS256_KEY_BYTES
 #define NONCE_BYTES HUNKRAVY_AEGIS256_NONCE_BYTES

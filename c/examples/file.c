@@ -7,7 +7,7 @@
  * sets text NUMBER, which may be the next one, or prints it. A text is a page, and has at most 4,032 bytes. The journal is
  * FILE.journal. A key file has 32 bytes. cc file.c $(pkg-config --cflags --libs hunkravy)
  */
-#define _XOPEN_SOURCE 700
+#define _GNU_SOURCE
 
 #include "hunkravy_pages.h"
 
@@ -47,6 +47,12 @@ struct write {
 static int get(int fd, uint8_t *bytes, size_t length, uint64_t place)
 {
     return pread(fd, bytes, length, (off_t)place) == (ssize_t)length;
+}
+
+/* A key file of the program hunkravy is longer: it has hexadecimal digits. */
+static int get_key(int fd, uint8_t *key)
+{
+    return lseek(fd, 0, SEEK_END) == KEY_BYTES && get(fd, key, KEY_BYTES, 0);
 }
 
 static int put(int fd, const uint8_t *bytes, size_t length, uint64_t place)
@@ -215,7 +221,7 @@ static int begin(struct file *file, const char *key_path, const char *path)
     char real[PATH_BYTES], folder[PATH_BYTES];
     file->fd = open(path, O_RDWR | O_CREAT, 0600);
     /* The journal of a file is beside it, and not beside a link to it. */
-    if (!get(open(key_path, O_RDONLY), file->key, KEY_BYTES, 0) || realpath(path, real) == NULL ||
+    if (!get_key(open(key_path, O_RDONLY), file->key) || realpath(path, real) == NULL ||
         snprintf(file->journal_path, PATH_BYTES, "%s.journal", real) >= PATH_BYTES ||
         snprintf(file->copy_path, PATH_BYTES, "%s.jrncopy", real) >= PATH_BYTES) {
         return 0;

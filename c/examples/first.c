@@ -7,6 +7,7 @@
 
 #include <string.h>
 #include <sys/random.h>
+#include <unistd.h>
 
 int main(void)
 {

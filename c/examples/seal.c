@@ -11,6 +11,7 @@
 #include <stdlib.h>
 #include <string.h>
 #include <sys/random.h>
+#include <unistd.h>
 
 /* A packet is the nonce, the ciphertext, and the tag. */
 #define NONCE_BYTES HUNKRAVY_AEGIS256_NONCE_BYTES

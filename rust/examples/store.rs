@@ -56,8 +56,12 @@ impl Store {
 
 fn read_key(path: &str) -> Result<[u8; 32]> {
     let mut key = [0; 32];
-    File::open(path)?.read_exact(&mut key)?;
-    Ok(key)
+    let mut file = File::open(path)?;
+    file.read_exact(&mut key)?;
+    match file.read(&mut [0])? {
+        0 => Ok(key),
+        _ => Err("a key file of 32 bytes is needed, and not one of the tool".into()),
+    }
 }
 
 fn try_all(path: &Path) -> Result<()> {
