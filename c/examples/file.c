@@ -248,7 +248,8 @@ int main(int count, char **arguments)
         return count > 2 ? EXIT_FAILURE : EXIT_SUCCESS;
     }
     number = strtoull(arguments[3], &rest, 10);
-    if (rest == arguments[3] || *rest != 0 || !begin(&file, arguments[1], arguments[2]) || number >= file.length / SIZE + (count == 5)) {
+    if (rest == arguments[3] || *rest != 0 || !begin(&file, arguments[1], arguments[2]) ||
+        number >= file.length / SIZE + (count == 5)) {
         fputs("file: check KEYFILE, FILE and NUMBER\n", stderr);
     } else if (count == 5) {
         uint64_t end = (number + 1) * SIZE;
