@@ -255,7 +255,7 @@ install: $(LIBRARY) $(SHARED)
 	sed 's|@VERSION@|$(VERSION)|' c/include/hunkravy-config-version.cmake.in > "$(DESTDIR)$(CMAKE_FOLDER)/hunkravy-config-version.cmake"
 
 # Builds and runs the examples that are installed at PREFIX, with what pkg-config returns: over the shared library, and over
-# the static one. With CMake a project asks for no version, or for one; older ones are right, and others are not.
+# the static one. With CMake a project asks for no version, or for one. Which version serves which is tested with other numbers.
 check-install: | $(OUT) $(if $(filter aarch64,$(FOLDER)),gcc-aarch64-linux-gnu qemu-user)
 	export PKG_CONFIG_PATH="$(LIBRARIES)/pkgconfig" LD_LIBRARY_PATH="$(LIBRARIES)" && \
 	[ "$$(realpath "$$(pkg-config --variable=prefix hunkravy)")" = "$$(realpath "$(PREFIX)/")" ] && \
@@ -280,7 +280,13 @@ check-install: | $(OUT) $(if $(filter aarch64,$(FOLDER)),gcc-aarch64-linux-gnu q
 				-DCMAKE_PREFIX_PATH="$(PREFIX);$(LIBRARIES)" > /dev/null 2> $(OUT)/cmake/said; \
 		} && \
 		for asked in 1.0 0.0.1 $(VERSION).1 '0.0.1;EXACT'; do ! finds $$asked || exit 1; done && \
-		for asked in '' $(basename $(VERSION)) '$(VERSION);EXACT' $(VERSION); do finds "$$asked" || { cat $(OUT)/cmake/said; exit 1; }; done && \
+		for asked in '' '$(VERSION);EXACT' $(VERSION); do finds "$$asked" || { cat $(OUT)/cmake/said; exit 1; }; done && \
+		serves() { \
+			{ sed "s|@VERSION@|$$1|" c/include/hunkravy-config-version.cmake.in && \
+				echo 'message("compatible: $${PACKAGE_VERSION_COMPATIBLE}")'; } > $(OUT)/cmake/version.cmake && \
+			cmake -DPACKAGE_FIND_VERSION=$$2 -P $(OUT)/cmake/version.cmake 2>&1 | grep -q 'compatible: TRUE'; \
+		} && \
+		serves 0.2.5 0.2.1 && serves 1.4.2 1.3 && ! serves 0.2.5 0.1.9 && ! serves 0.2.5 0.2.6 && ! serves 2.0.0 1.9 && \
 		cmake --build $(OUT)/cmake/build > /dev/null && \
 		$(OUT)/cmake/build/seal-hunkravy && $(OUT)/cmake/build/seal-static; \
 	else \

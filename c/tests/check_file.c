@@ -319,6 +319,18 @@ static void check_crashes(void)
     HOLDS(changed > 100 && changed < 900);
 }
 
+/* A key file of the program hunkravy is no key here, and a journal that is a link is not followed: nothing is emptied. */
+static void check_names(void)
+{
+    struct file file = {.fd = -1};
+    uint8_t key[KEY_BYTES];
+
+    HOLDS(truncate(key_path, 65) == 0 && !begin(&file, key_path, path) && truncate(key_path, KEY_BYTES) == 0);
+    HOLDS(begin(&file, key_path, path) && unlink(journal_path) == 0);
+    HOLDS(symlink(key_path, journal_path) == 0 && !begin(&file, key_path, path) && unlink(journal_path) == 0);
+    HOLDS(get_key(open(key_path, O_RDONLY), key) && unlink(path) == 0);
+}
+
 /* ---- Rows, as those of crates/example_batches */
 
 enum { ROWS = 5, ROW_DISTANCE = 10000, ROW_PAGES = 13 };
@@ -401,6 +413,7 @@ int main(int argc, char **argv)
         run_batches(argv[2], argc > 3);
         return EXIT_SUCCESS;
     }
+    check_names();
     check_kills();
     check_crashes();
     printf("the file of the example: %lu checks\n", checks);

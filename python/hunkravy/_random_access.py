@@ -301,7 +301,7 @@ class RandomAccessFile(variants.Secret, turns.Turns):
         self._journal = Journal(self._path, self._file)
         try:
             if not is_new and os.fstat(self._file).st_size == 0 and self._journal.size() == 0:
-                # Who has just created it locks it next, and must not find it locked.
+                # Whoever has just created it locks it next, and must not find it locked.
                 raise RandomAccessError("header")
             fcntl.flock(self._file, fcntl.LOCK_EX | fcntl.LOCK_NB)
             self._check_name()

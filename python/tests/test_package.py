@@ -78,7 +78,9 @@ class Building(unittest.TestCase):
         """They need no other file, and give the same wheel."""
         sources = self.unpacked()
         self.assertEqual((sources / "LICENSE").read_text(), (HERE.parent / "LICENSE").read_text())
-        self.assertIn(f"\nVersion: {hunkravy.__version__}\n", (sources / "PKG-INFO").read_text())
+        page = (sources / "PKG-INFO").read_text()
+        self.assertIn(f"\nVersion: {hunkravy.__version__}\n", page)
+        self.assertNotRegex(page, r"\]\((?!https:|#)", "a link to a file that is not beside the page")
         wheels = [self.run_hook("build_wheel", folder).read_bytes() for folder in (HERE, sources)]
         self.assertEqual(*wheels)
 
