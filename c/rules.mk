@@ -178,6 +178,9 @@ check-shared: $(OUT)/both/$(SONAME)
 
 # The tests with another C library than glibc, over the library with both levels and over each level alone.
 check-musl: $(addprefix check-musl-,both $(RUNNABLE))
+	for example in $(C_EXAMPLES); do \
+		musl-gcc -Werror=implicit-function-declaration -Ic/include -fsyntax-only c/examples/$$example.c || exit 1; \
+	done
 
 check-musl-%: $(OUT)/%/libhunkravy.a
 	for program in $(C_TESTS); do \

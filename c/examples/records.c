@@ -10,7 +10,7 @@
  *
  * cc records.c $(pkg-config --cflags --libs hunkravy)
  */
-#define _POSIX_C_SOURCE 200809L
+#define _GNU_SOURCE
 
 #include "hunkravy_records.h"
 
