@@ -1,6 +1,7 @@
 """The native module, python/native/native.c. Only the package uses it."""
 
-from typing import Final, final, overload
+from types import TracebackType
+from typing import Any, Final, final, overload
 
 from _typeshed import ReadableBuffer as Buffer
 
@@ -53,3 +54,11 @@ class Records:
     def begin(self, number: int, before: int, /) -> None: ...
     def seal(self, record: Buffer, is_last: bool, /) -> None: ...
     def open(self, record: Buffer, /) -> bool: ...
+
+@final
+class Batch:
+    def __new__(cls, file: object, /) -> Batch: ...
+    def __enter__(self) -> Any: ...
+    def __exit__(
+        self, kind: type[BaseException] | None, error: BaseException | None, traceback: TracebackType | None, /
+    ) -> None: ...

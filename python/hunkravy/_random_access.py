@@ -3,13 +3,13 @@
 from __future__ import annotations
 
 import contextlib
+import dataclasses
 import errno
 import fcntl
 import operator
 import os
 import stat
 import threading
-from collections.abc import Iterator
 from types import TracebackType
 from typing import TYPE_CHECKING, Any, ContextManager, Optional, Self, Union
 
@@ -44,13 +44,14 @@ CAUSES = {
 }
 
 
+@dataclasses.dataclass(frozen=True)
 class Savepoint:
     """What a batch that fails goes back to: the changed pages, the length and the commits at its beginning."""
 
-    def __init__(self, outer: Optional[Savepoint], changes: dict[int, bytes], size: int, counter: int) -> None:
-        self.outer, self.changes, self.size, self.counter = outer, changes, size, counter
-        # Those of the batches that it is in, and itself.
-        self.chain: tuple[Savepoint, ...] = (*(outer.chain if outer is not None else ()), self)
+    outer: Optional[Savepoint]
+    changes: dict[int, bytes]
+    size: int
+    counter: int
 
 
 class RandomAccessError(ValueError):
@@ -284,6 +285,8 @@ class RandomAccessFile(variants.Secret, turns.Turns):
         self, path: Union[str, os.PathLike[str]], key: _ReadableBuffer, cipher: type[variants.Variant], flags: int
     ) -> None:
         """Opens and locks the file, or creates one."""
+        if not getattr(self, "closed", True):
+            raise RuntimeError("the file is open already")
         is_new = bool(flags & os.O_EXCL)
         turns.Turns.__init__(self)
         self._batches = threading.RLock()
@@ -497,38 +500,27 @@ class RandomAccessFile(variants.Secret, turns.Turns):
             return contextlib.nullcontext()
         return super()._turn()
 
-    @contextlib.contextmanager
-    def batch(self) -> Iterator[Self]:
+    def batch(self) -> ContextManager[Self]:
         """Makes several changes together: `with file.batch():` commits them at its end, or discards them after an exception.
 
         Changes that were made before are committed first. A batch in another one commits nothing: if it fails, its own
-        changes are discarded. Other threads wait until the batch ends.
+        changes are discarded. Other threads wait until the batch ends, which must be in the thread in which it began.
         """
-        with self._next_batch():
-            if self._batch is None:
-                self.commit()
-            with self._turn():
-                self._check()
-                own = Savepoint(self._batch, dict(self._changes), self._size, self._counter)
-            try:
-                self._batch = own
-                yield self
-                if self._batch is not own:
-                    raise RuntimeError("a batch in this one has not ended, or the one that it is in has")
-                if own.outer is None:
-                    self.commit()
-            except BaseException as error:
-                # Nothing is called here, so no signal leaves it half done. A block that a signal has left is freed without an end,
-                # perhaps after others have ended in it. It stays open, and closing the file raises an error.
-                is_freed = error.__class__ is GeneratorExit and error.__traceback__.tb_next is None  # type: ignore[union-attr]
-                if not is_freed and self._batch is not None and own in self._batch.chain:
-                    if own.counter == self._counter:
-                        self._changes, self._size, self._undo = own.changes, own.size, None
-                    else:
-                        self._changes, self._size, self._undo = {}, self._stored, None
-                    self._batch = own.outer
-                raise
-            self._batch = own.outer
+        return _native.Batch(self)
+
+    def _begin_batch(self) -> Savepoint:
+        if self._batch is None:
+            self.commit()
+        with self._turn():
+            self._check()
+            own = Savepoint(self._batch, dict(self._changes), self._size, self._counter)
+        return own
+
+    def _end_batch(self, own: Savepoint) -> None:
+        if self._batch is not own:
+            raise RuntimeError("a batch in this one has not ended, or the one that it is in has")
+        if own.outer is None:
+            self.commit()
 
     def _writes(self) -> list[tuple[int, bytes]]:
         """Returns the writes of a commit: the old header, the changed pages, and the next header."""

@@ -879,6 +879,153 @@ static PyMethodDef records_methods[] = {
     {NULL, NULL, 0, NULL},
 };
 
+/*
+ * ---- A batch of a random-access file. Python calls the handlers of signals between two of its own instructions, so an
+ * exception of one leaves no function here half done. The methods of the file that are called here may raise one.
+ */
+
+typedef struct {
+    PyObject_HEAD PyObject *file;
+    /* From its beginning to its end: what it goes back to if it fails, the lock of batches, and the thread that has it. */
+    PyObject *savepoint;
+    PyObject *lock;
+    unsigned long thread;
+} Batch;
+
+static PyObject *batch_new(PyTypeObject *type, PyObject *file, PyObject *named)
+{
+    Batch *self = PyTuple_Size(file) == 1 ? (Batch *)PyType_GenericAlloc(type, 0) : NULL;
+    (void)named;
+    if (self != NULL) {
+        self->file = Py_NewRef(PyTuple_GetItem(file, 0));
+    }
+    return (PyObject *)self;
+}
+
+/* Gives the file an attribute, if there is a value, which is dropped. */
+static void set(const Batch *self, const char *name, PyObject *value)
+{
+    if (value != NULL) {
+        PyObject_SetAttrString(self->file, name, value);
+        Py_DECREF(value);
+    }
+}
+
+/* Returns whether it has not ended, nor has one that it is in. */
+static bool is_open(const Batch *self)
+{
+    PyObject *at = PyObject_GetAttrString(self->file, "_batch");
+    while (at != NULL && at != Py_None && at != self->savepoint) {
+        PyObject *outer = PyObject_GetAttrString(at, "outer");
+        Py_DECREF(at);
+        at = outer;
+    }
+    Py_XDECREF(at);
+    return at == self->savepoint;
+}
+
+/* Takes the changes since its beginning back, or those since the last commit, if that was in it. */
+static void go_back(const Batch *self)
+{
+    PyObject *then = PyObject_GetAttrString(self->savepoint, "counter");
+    PyObject *now = PyObject_GetAttrString(self->file, "_counter");
+    if (PyObject_RichCompareBool(then, now, Py_EQ) == 1) {
+        set(self, "_changes", PyObject_GetAttrString(self->savepoint, "changes"));
+        set(self, "_size", PyObject_GetAttrString(self->savepoint, "size"));
+    } else {
+        set(self, "_changes", PyDict_New());
+        set(self, "_size", PyObject_GetAttrString(self->file, "_stored"));
+    }
+    set(self, "_undo", Py_NewRef(Py_None));
+    Py_XDECREF(then);
+    Py_XDECREF(now);
+}
+
+static void leave(PyObject *lock)
+{
+    Py_XDECREF(PyObject_CallMethod(lock, "__exit__", "OOO", Py_None, Py_None, Py_None));
+    Py_DECREF(lock);
+}
+
+/* Ends it, and goes back unless it is whole. Keeps the exception that there may be. */
+static void end(Batch *self, bool is_whole)
+{
+    PyObject *kind, *error, *traceback;
+    PyErr_Fetch(&kind, &error, &traceback);
+    if (self->savepoint != NULL && is_open(self)) {
+        if (!is_whole) {
+            go_back(self);
+        }
+        set(self, "_batch", PyObject_GetAttrString(self->savepoint, "outer"));
+    }
+    Py_CLEAR(self->savepoint);
+    leave(self->lock);
+    PyErr_Restore(kind, error, traceback);
+}
+
+/* Takes the lock of batches, and begins. Other threads then wait. */
+static PyObject *batch_enter(PyObject *object, PyObject *none)
+{
+    Batch *self = (Batch *)object;
+    (void)none;
+    if (self->savepoint != NULL) {
+        return PyErr_SetString(PyExc_RuntimeError, "this batch has begun"), NULL;
+    }
+    PyObject *lock = PyObject_CallMethod(self->file, "_next_batch", NULL);
+    PyObject *taken = lock == NULL ? NULL : PyObject_CallMethod(lock, "__enter__", NULL);
+    if (taken == NULL) {
+        Py_XDECREF(lock);
+        return NULL;
+    }
+    Py_DECREF(taken);
+    self->lock = lock;
+    self->thread = PyThread_get_thread_ident();
+    self->savepoint = PyObject_CallMethod(self->file, "_begin_batch", NULL);
+    if (self->savepoint == NULL) {
+        end(self, false);
+        return NULL;
+    }
+    set(self, "_batch", Py_NewRef(self->savepoint));
+    return Py_NewRef(self->file);
+}
+
+/* Commits after the outermost block, unless that raised an exception. */
+static PyObject *batch_exit(PyObject *object, PyObject *given)
+{
+    Batch *self = (Batch *)object;
+    PyObject *kind, *error, *traceback;
+    if (!PyArg_ParseTuple(given, "OOO", &kind, &error, &traceback)) {
+        return NULL;
+    }
+    if (self->savepoint == NULL || self->thread != PyThread_get_thread_ident()) {
+        return PyErr_SetString(PyExc_RuntimeError, "the batch has not begun in this thread, or has ended"), NULL;
+    }
+    PyObject *result =
+        kind != Py_None ? Py_NewRef(Py_None) : PyObject_CallMethod(self->file, "_end_batch", "(O)", self->savepoint);
+    end(self, kind == Py_None && result != NULL);
+    return result;
+}
+
+/* One that a signal has left before its block, or that nobody has ended, fails. */
+static void batch_free(PyObject *object)
+{
+    Batch *self = (Batch *)object;
+    PyTypeObject *type = Py_TYPE(object);
+    if (self->savepoint != NULL && self->thread == PyThread_get_thread_ident()) {
+        end(self, false);
+    }
+    Py_XDECREF(self->savepoint);
+    Py_XDECREF(self->file);
+    PyObject_Free(object);
+    Py_DECREF(type);
+}
+
+static PyMethodDef batch_methods[] = {
+    {"__enter__", batch_enter, METH_NOARGS, NULL},
+    {"__exit__", batch_exit, METH_VARARGS, NULL},
+    {NULL, NULL, 0, NULL},
+};
+
 /* ---- The module */
 
 static PyType_Slot cipher_slots[] = {
@@ -886,6 +1033,8 @@ static PyType_Slot cipher_slots[] = {
 static PyType_Slot state_slots[] = {{Py_tp_dealloc, SLOT(state_free)}, {Py_tp_methods, state_methods}, {0, NULL}};
 static PyType_Slot records_slots[] = {
     {Py_tp_new, SLOT(records_new)}, {Py_tp_dealloc, SLOT(records_free)}, {Py_tp_methods, records_methods}, {0, NULL}};
+static PyType_Slot batch_slots[] = {
+    {Py_tp_new, SLOT(batch_new)}, {Py_tp_dealloc, SLOT(batch_free)}, {Py_tp_methods, batch_methods}, {0, NULL}};
 
 /* Only `Cipher.begin` makes states. The bit of Py_TPFLAGS_IMMUTABLETYPE keeps Python code from changing the types. */
 enum { TYPE_FLAGS = Py_TPFLAGS_DEFAULT | 1 << 8 };
@@ -893,6 +1042,7 @@ static PyType_Spec specs[] = {
     {"hunkravy._native.Cipher", sizeof(Cipher), 0, TYPE_FLAGS, cipher_slots},
     {"hunkravy._native.State", sizeof(State), 0, TYPE_FLAGS | Py_TPFLAGS_DISALLOW_INSTANTIATION, state_slots},
     {"hunkravy._native.Records", sizeof(Records), 0, TYPE_FLAGS, records_slots},
+    {"hunkravy._native.Batch", sizeof(Batch), 0, TYPE_FLAGS, batch_slots},
 };
 
 static int execute(PyObject *object)

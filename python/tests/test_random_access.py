@@ -1,5 +1,6 @@
 """Random-access files: what a crash leaves, locks and moved files, batches, and file objects over them."""
 
+import concurrent.futures
 import contextlib
 import dis
 import errno
@@ -370,7 +371,7 @@ class Files(unittest.TestCase):
         self.assertEqual(contents(self.path), b"before and after")
 
     def test_signals_in_batches_in_others(self) -> None:
-        places = (0, 1000, 2000)
+        places = (0, 1000)
 
         def change(file: RandomAccessFile) -> None:
             with file.batch():
@@ -384,12 +385,11 @@ class Files(unittest.TestCase):
             with file.batch():
                 for place in places:
                     file.write_at(place, b"before")
-            was_interrupted = interrupted_at(number, lambda: change(file), "contextlib.py", "_random_access.py")
+            was_interrupted = interrupted_at(number, lambda: change(file), "_turns.py", "_random_access.py")
+            self.assertIsNone(file._batch)
             with contextlib.suppress(RandomAccessError), file.batch():
                 pass
-            # One that was left open may have changes.
-            with contextlib.suppress(RuntimeError):
-                file.close()
+            file.close()
             with RandomAccessFile(path, KEY) as file:
                 self.assertEqual(len({file.read_at(place, 6) for place in places}), 1, number)
             if not was_interrupted:
@@ -467,20 +467,43 @@ class Files(unittest.TestCase):
         return write
 
     def test_a_batch_that_is_left_open(self) -> None:
-        file = RandomAccessFile.create(self.path, KEY)
+        with RandomAccessFile.create(self.path, KEY) as file:
+            file.write_at(0, b"before")
+            batch = file.batch()
+            batch.__enter__()
+            self.assertRaisesRegex(RuntimeError, "this batch has begun", batch.__enter__)
+            with file.batch():
+                file.write_at(0, b"lost too")
+            # A signal may come before the block.
+            del batch
+            self.assertEqual(file.read_at(0, 9), b"before")
+            ended = file.batch()
+            with ended:
+                file.write_at(0, b"after ")
+            self.assertRaisesRegex(RuntimeError, "has ended", ended.__exit__, None, None, None)
+        self.assertEqual(contents(self.path), b"after ")
+        file = RandomAccessFile(self.path, KEY)
+        file.batch().__enter__()
         batch = file.batch()
         batch.__enter__()
-        with file.batch():
-            file.write_at(0, b"lost")
-        del batch
-        with self.assertRaisesRegex(RuntimeError, "changes are discarded"):
-            file.close()
-        self.assertTrue(file.closed)
-        self.assertEqual(contents(self.path), b"")
+        file.write_at(0, b"lost")
+        self.assertRaisesRegex(RuntimeError, "changes are discarded", file.close)
+        self.assertEqual(contents(self.path), b"after ")
+
+    def test_a_batch_that_another_thread_ends(self) -> None:
+        with RandomAccessFile.create(self.path, KEY) as file:
+            batch = file.batch()
+            batch.__enter__()
+            file.write_at(0, b"kept")
+            with concurrent.futures.ThreadPoolExecutor() as other:
+                self.assertRaises(RuntimeError, other.submit(batch.__exit__, None, None, None).result)
+            batch.__exit__(None, None, None)
+        self.assertEqual(contents(self.path), b"kept")
 
     def test_locks_and_moves(self) -> None:
         file = RandomAccessFile.create(self.path, KEY)
         self.assertCause("locked", RandomAccessFile, self.path, KEY)
+        self.assertRaisesRegex(RuntimeError, "open already", file.__init__, self.path, KEY)  # type: ignore[misc]
         self.assertRaises(FileExistsError, RandomAccessFile.create, self.path, KEY)
         file.write_at(0, b"kept")
         self.path.rename(self.folder / "moved")
