@@ -21,7 +21,7 @@ from collections.abc import Callable, Generator
 from typing import Any
 from unittest import mock
 
-from hunkravy import Aegis128L, Aegis128X4, Aegis256, RandomAccessError, RandomAccessFile, _random_access
+from hunkravy import Aegis128L, Aegis128X4, Aegis256, RandomAccessError, RandomAccessFile, _native, _random_access
 
 KEY = bytes(range(32))
 BEFORE = b"before" * 60
@@ -489,6 +489,14 @@ class Files(unittest.TestCase):
         file.write_at(0, b"lost")
         self.assertRaisesRegex(RuntimeError, "changes are discarded", file.close)
         self.assertEqual(contents(self.path), b"after ")
+
+    def test_batches_keep_no_file(self) -> None:
+        with RandomAccessFile.create(self.path, KEY) as file:
+            before = sys.getrefcount(file), sys.getrefcount(_native.Batch)
+            for divisor in (0, 1) * 50:
+                with contextlib.suppress(ZeroDivisionError), file.batch():
+                    1 / divisor
+            self.assertEqual((sys.getrefcount(file), sys.getrefcount(_native.Batch)), before)
 
     def test_a_batch_that_another_thread_ends(self) -> None:
         with RandomAccessFile.create(self.path, KEY) as file:
