@@ -140,6 +140,7 @@ check-c-%: $(OUT)/%/libhunkravy.a
 		LEVEL=$(if $(filter both,$*),,$(or $(patsubst x86-64-v%,%,$(filter x86%,$*)),0)) \
 			$(RUN_$*) $(OUT)/$*/$$program $(STORED_LINES) || exit 1; \
 	done
+	c/tests/check_records.sh $(RUN_$*) $(OUT)/$*/records
 	for compiler in $(TOOLS_$*)$(CC) $(if $(TOOLS_$*),,$(CLANG)); do \
 		$$compiler -std=c99 $(C_FLAGS) -O3 c/tests/check_wipe.c $< -o $(OUT)/$*/check_wipe && \
 		$(RUN_$*) $(OUT)/$*/check_wipe || exit 1; \
@@ -159,6 +160,7 @@ check-sanitized: $(OUT)/$(SANITIZED_LEVEL)/aegis_c.a
 			-o $(SANITIZED)/$$program && \
 		$(RUN_$(FOLDER)) $(SANITIZED)/$$program $(STORED_LINES) || exit 1; \
 	done
+	c/tests/check_records.sh $(RUN_$(FOLDER)) $(SANITIZED)/records
 
 # Each library is built again once a file of each folder that it is made of is newer, and the shared one once its rule is.
 check-rebuilt: $(OUT)/both/libhunkravy.a $(OUT)/both/$(SONAME)

@@ -6,19 +6,16 @@
  *     records open KEYFILE < sealed > plain
  *
  * A key file has 32 bytes. If the opener fails, what it has written is only the beginning of what
- * was sealed. Without these arguments the program tests itself.
+ * was sealed.
  *
  * cc records.c $(pkg-config --cflags --libs hunkravy)
  */
-#define _GNU_SOURCE
-
 #include "hunkravy_records.h"
 
 #include <stdio.h>
 #include <stdlib.h>
 #include <string.h>
 #include <sys/random.h>
-#include <sys/wait.h>
 #include <unistd.h>
 
 #define KEY_BYTES HUNKRAVY_RECORD_KEY_BYTES
@@ -127,88 +124,6 @@ static int open_sealed(FILE *out, FILE *in, const uint8_t *key)
     return result;
 }
 
-/* ---- The program's test of itself */
-
-/* Opens what another process seals to a pipe. Returns 0, or -1. */
-static int through_pipe(FILE *opened, FILE *plain, const uint8_t *key)
-{
-    int ends[2], status, result = -1;
-    FILE *in;
-    pid_t child;
-
-    if (pipe(ends) != 0 || (child = fork()) < 0) {
-        return -1;
-    }
-    if (child == 0) {
-        FILE *out = fdopen(ends[1], "wb");
-        close(ends[0]);
-        _exit(out != NULL && seal(out, plain, key) == 0 ? EXIT_SUCCESS : EXIT_FAILURE);
-    }
-    close(ends[1]);
-    in = fdopen(ends[0], "rb");
-    if (in != NULL) {
-        result = open_sealed(opened, in, key);
-        fclose(in);
-    }
-    return waitpid(child, &status, 0) == child && status == 0 ? result : -1;
-}
-
-/* Seals `plain` to a file, and changes the byte `at` from its end. Returns 0 if it is rejected. */
-static int try_changed(FILE *plain, const uint8_t *key, long at)
-{
-    FILE *sealed = tmpfile(), *opened = tmpfile();
-    int result = -1;
-
-    rewind(plain);
-    if (sealed != NULL && opened != NULL && seal(sealed, plain, key) == 0 && fseek(sealed, at, SEEK_END) == 0) {
-        int byte = at < 0 ? getc(sealed) : 0;
-        fseek(sealed, at, SEEK_END);
-        putc(byte ^ 1, sealed);
-        rewind(sealed);
-        result = open_sealed(opened, sealed, key) == 0 ? -1 : 0;
-    }
-    if (sealed != NULL) {
-        fclose(sealed);
-    }
-    if (opened != NULL) {
-        fclose(opened);
-    }
-    return result;
-}
-
-/* Returns 0 if both files have the same bytes. */
-static int compare(FILE *one, FILE *other)
-{
-    int byte;
-
-    rewind(one);
-    rewind(other);
-    while ((byte = getc(one)) != EOF) {
-        if (getc(other) != byte) {
-            return -1;
-        }
-    }
-    return getc(other) == EOF ? 0 : -1;
-}
-
-static int try_all(FILE *plain, FILE *opened, const uint8_t *key)
-{
-    int i;
-
-    for (i = 0; i < 3 * PIECE_BYTES + 100; i++) {
-        putc(i % 251, plain);
-    }
-    rewind(plain);
-    if (through_pipe(opened, plain, key) != 0 || compare(plain, opened) != 0) {
-        return -1;
-    }
-    /* A byte of the last tag, one of an earlier record, and one more at the end. */
-    return try_changed(plain, key, -1) == 0 && try_changed(plain, key, -PIECE_BYTES) == 0 &&
-            try_changed(plain, key, 0) == 0
-        ? 0
-        : -1;
-}
-
 static int read_key(uint8_t *key, const char *name)
 {
     FILE *file = fopen(name, "rb");
@@ -226,24 +141,18 @@ int main(int count, char **arguments)
     uint8_t key[KEY_BYTES];
     int result = -1;
 
-    if (count == 3) {
-        if (read_key(key, arguments[2]) == 0) {
-            result = strcmp(arguments[1], "seal") == 0 ? seal(stdout, stdin, key)
-                : strcmp(arguments[1], "open") == 0    ? open_sealed(stdout, stdin, key)
-                                                       : -1;
-        }
-        if (result != 0) {
-            fputs("records: failed: check the command, KEYFILE, input and output\n", stderr);
-        }
-    } else {
-        FILE *plain = tmpfile(), *opened = tmpfile();
-        if (plain != NULL && opened != NULL && getentropy(key, sizeof key) == 0) {
-            result = try_all(plain, opened, key);
-        }
-        if (result == 0) {
-            puts("hunkravy: a stream was opened from a pipe, and each changed one was rejected");
-        }
+    if (count != 3) {
+        puts("usage: records seal|open KEYFILE");
+        return EXIT_SUCCESS;
+    }
+    if (read_key(key, arguments[2]) == 0) {
+        result = strcmp(arguments[1], "seal") == 0 ? seal(stdout, stdin, key)
+            : strcmp(arguments[1], "open") == 0    ? open_sealed(stdout, stdin, key)
+                                                   : -1;
     }
     hunkravy_wipe(key, sizeof key);
+    if (result != 0) {
+        fputs("records: failed: check the command, KEYFILE, input and output\n", stderr);
+    }
     return result == 0 ? EXIT_SUCCESS : EXIT_FAILURE;
 }
