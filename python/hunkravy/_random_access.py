@@ -44,7 +44,7 @@ CAUSES = {
 }
 
 
-@dataclasses.dataclass(frozen=True)
+@dataclasses.dataclass
 class Savepoint:
     """What a batch that fails goes back to: the changed pages, the length and the commits at its beginning."""
 
@@ -52,6 +52,8 @@ class Savepoint:
     changes: dict[int, bytes]
     size: int
     counter: int
+    # Whether one that it was in has ended before it.
+    has_failed: bool = False
 
 
 class RandomAccessError(ValueError):
@@ -517,8 +519,8 @@ class RandomAccessFile(variants.Secret, turns.Turns):
         return own
 
     def _end_batch(self, own: Savepoint) -> None:
-        if self._batch is not own:
-            raise RuntimeError("a batch in this one has not ended, or the one that it is in has")
+        if self._batch is not own or own.has_failed:
+            raise RuntimeError("a batch in this one has not ended, or the one that it was in has")
         if own.outer is None:
             self.commit()
 

@@ -902,23 +902,29 @@ static PyObject *batch_new(PyTypeObject *type, PyObject *file, PyObject *named)
     return (PyObject *)self;
 }
 
-/* Gives the file an attribute, if there is a value, which is dropped. */
-static void set(const Batch *self, const char *name, PyObject *value)
+/* Gives an object an attribute, if there is a value, which is dropped. */
+static void set(PyObject *object, const char *name, PyObject *value)
 {
     if (value != NULL) {
-        PyObject_SetAttrString(self->file, name, value);
+        PyObject_SetAttrString(object, name, value);
         Py_DECREF(value);
     }
+}
+
+/* Returns the batch that the one at a savepoint is in, or at a file the innermost one. Drops what was given. */
+static PyObject *next_of(PyObject *object, const char *name)
+{
+    PyObject *next = PyObject_GetAttrString(object, name);
+    Py_DECREF(object);
+    return next;
 }
 
 /* Returns whether it has not ended, nor has one that it is in. */
 static bool is_open(const Batch *self)
 {
-    PyObject *at = PyObject_GetAttrString(self->file, "_batch");
+    PyObject *at = next_of(Py_NewRef(self->file), "_batch");
     while (at != NULL && at != Py_None && at != self->savepoint) {
-        PyObject *outer = PyObject_GetAttrString(at, "outer");
-        Py_DECREF(at);
-        at = outer;
+        at = next_of(at, "outer");
     }
     Py_XDECREF(at);
     return at == self->savepoint;
@@ -930,15 +936,35 @@ static void go_back(const Batch *self)
     PyObject *then = PyObject_GetAttrString(self->savepoint, "counter");
     PyObject *now = PyObject_GetAttrString(self->file, "_counter");
     if (PyObject_RichCompareBool(then, now, Py_EQ) == 1) {
-        set(self, "_changes", PyObject_GetAttrString(self->savepoint, "changes"));
-        set(self, "_size", PyObject_GetAttrString(self->savepoint, "size"));
+        set(self->file, "_changes", PyObject_GetAttrString(self->savepoint, "changes"));
+        set(self->file, "_size", PyObject_GetAttrString(self->savepoint, "size"));
     } else {
-        set(self, "_changes", PyDict_New());
-        set(self, "_size", PyObject_GetAttrString(self->file, "_stored"));
+        set(self->file, "_changes", PyDict_New());
+        set(self->file, "_size", PyObject_GetAttrString(self->file, "_stored"));
     }
-    set(self, "_undo", Py_NewRef(Py_None));
+    set(self->file, "_undo", Py_NewRef(Py_None));
     Py_XDECREF(then);
     Py_XDECREF(now);
+}
+
+/* Takes it out of those that are open. One in it that has not ended fails too, and then goes back as far. */
+static void remove_batch(const Batch *self)
+{
+    PyObject *inner = Py_NewRef(self->file), *at = next_of(Py_NewRef(self->file), "_batch");
+    while (at != NULL && at != self->savepoint) {
+        PyObject *changes = PyObject_GetAttrString(self->savepoint, "changes");
+        set(at, "changes", changes == NULL ? NULL : PyDict_Copy(changes));
+        Py_XDECREF(changes);
+        set(at, "counter", PyObject_GetAttrString(self->savepoint, "counter"));
+        set(at, "size", PyObject_GetAttrString(self->savepoint, "size"));
+        set(at, "has_failed", Py_NewRef(Py_True));
+        Py_DECREF(inner);
+        inner = Py_NewRef(at);
+        at = next_of(at, "outer");
+    }
+    set(inner, inner == self->file ? "_batch" : "outer", PyObject_GetAttrString(self->savepoint, "outer"));
+    Py_DECREF(inner);
+    Py_XDECREF(at);
 }
 
 static void leave(PyObject *lock)
@@ -956,7 +982,7 @@ static void end(Batch *self, bool is_whole)
         if (!is_whole) {
             go_back(self);
         }
-        set(self, "_batch", PyObject_GetAttrString(self->savepoint, "outer"));
+        remove_batch(self);
     }
     Py_CLEAR(self->savepoint);
     leave(self->lock);
@@ -985,7 +1011,7 @@ static PyObject *batch_enter(PyObject *object, PyObject *none)
         end(self, false);
         return NULL;
     }
-    set(self, "_batch", Py_NewRef(self->savepoint));
+    set(self->file, "_batch", Py_NewRef(self->savepoint));
     return Py_NewRef(self->file);
 }
 

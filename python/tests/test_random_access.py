@@ -347,12 +347,14 @@ class Files(unittest.TestCase):
                 file.write_at(0, b"lost")
                 inner = file.batch()
                 inner.__enter__()
+            # What is written before it ends is half of it.
+            file.write_at(0, b"half")
+            self.assertRaisesRegex(RuntimeError, "that it was in has", inner.__exit__, None, None, None)
+            self.assertEqual(file.read_at(0, 9), b"")
             file.write_at(0, b"kept")
-            del inner
-            self.assertEqual(file.read_at(0, 99), b"kept")
         self.assertEqual(contents(self.path), b"kept")
 
-    def test_a_batch_that_fails_before_one_in_it_has_ended(self) -> None:
+    def test_a_batch_that_fails_before_those_in_it_have_ended(self) -> None:
         with RandomAccessFile.create(self.path, KEY) as file:
             file.write_at(0, b"before")
             left_open = []
@@ -363,12 +365,14 @@ class Files(unittest.TestCase):
                     file.write_at(0, change)
                     file.truncate(3)
                 1 / 0
+            for _ in range(2):
+                self.assertEqual(file.read_at(0, 99), b"before")
+                file.write_at(0, b"half")
+                with file.batch():
+                    file.write_at(6, b" and half")
+                left_open.pop()
             self.assertEqual(file.read_at(0, 99), b"before")
-            file.write_at(6, b" and after")
-            del left_open
-            with file.batch():
-                self.assertEqual(file.read_at(0, 99), b"before and after")
-        self.assertEqual(contents(self.path), b"before and after")
+        self.assertEqual(contents(self.path), b"before")
 
     def test_signals_in_batches_in_others(self) -> None:
         places = (0, 1000)
@@ -582,7 +586,8 @@ class Files(unittest.TestCase):
             next(second)
             self.assertRaises(ZeroDivisionError, first.throw, ZeroDivisionError)
             self.assertEqual(file.size, 0)
-            self.assertRaisesRegex(RuntimeError, "the one that it is in has", next, second)
+            self.assertRaisesRegex(RuntimeError, "the one that it was in has", next, second)
+            self.assertEqual(file.size, 0)
 
     def test_a_close_in_a_process_that_was_forked(self) -> None:
         file = RandomAccessFile.create(self.path, KEY)
