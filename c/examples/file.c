@@ -17,6 +17,7 @@
 #include <stdlib.h>
 #include <string.h>
 #include <sys/random.h>
+#include <sys/stat.h>
 #include <unistd.h>
 
 #define VARIANT HUNKRAVY_AEGIS256
@@ -218,6 +219,7 @@ static int commit(const struct file *file, struct write *writes, size_t count, u
 static int begin(struct file *file, const char *key_path, const char *path)
 {
     struct flock whole = {.l_type = F_WRLCK, .l_whence = SEEK_SET};
+    struct stat found;
     char real[PATH_BYTES], folder[PATH_BYTES];
     file->fd = open(path, O_RDWR | O_CREAT, 0600);
     /* The journal of a file is beside it, and not beside a link to it. */
@@ -228,7 +230,8 @@ static int begin(struct file *file, const char *key_path, const char *path)
     }
     strcpy(folder, real);
     file->folder = open(dirname(folder), O_RDONLY);
-    if (fcntl(file->fd, F_SETLK, &whole) != 0) {
+    /* Each name of a file would have a journal. */
+    if (fcntl(file->fd, F_SETLK, &whole) != 0 || fstat(file->fd, &found) != 0 || found.st_nlink != 1) {
         return 0;
     }
     file->journal = open(file->journal_path, O_RDWR | O_CREAT | O_NOFOLLOW, 0600);

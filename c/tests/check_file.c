@@ -328,7 +328,9 @@ static void check_names(void)
     HOLDS(truncate(key_path, 65) == 0 && !begin(&file, key_path, path) && truncate(key_path, KEY_BYTES) == 0);
     HOLDS(begin(&file, key_path, path) && unlink(journal_path) == 0);
     HOLDS(symlink(key_path, journal_path) == 0 && !begin(&file, key_path, path) && unlink(journal_path) == 0);
-    HOLDS(get_key(open(key_path, O_RDONLY), key) && unlink(path) == 0);
+    HOLDS(get_key(open(key_path, O_RDONLY), key));
+    HOLDS(link(path, copy_path) == 0 && !begin(&file, key_path, path) && unlink(copy_path) == 0);
+    HOLDS(unlink(path) == 0);
 }
 
 /* ---- Rows, as those of crates/example_batches */
