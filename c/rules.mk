@@ -190,21 +190,17 @@ check-musl-%: $(OUT)/%/libhunkravy.a
 		LEVEL=$(patsubst x86-64-v%,%,$(filter x86%,$*)) $(OUT)/$*/$$program-musl $(STORED_LINES) || exit 1; \
 	done
 
-# The calls, types and symbols of the shared library are those that c/abi.xml describes, which abidw wrote. A library for
-# debuggers has them all: that of the sources of c/ over the exports of one level.
-DESCRIBED = $(OUT)/abi/$(SONAME)
+# The structs and the functions of the headers are those of c/abi.txt, so no type changes without a new one of these.
+INTERFACE = include() { printf '\#include "%s"\n' $(OWN_HEADERS) | $(CC) -std=c99 -Ic/include "$$@" -x c -; } && \
+	{ include -E -P | sed -n '/^typedef struct hunkravy/,/^}/p'; \
+	include -fsyntax-only -aux-info /dev/stdout | sed -n 's/.* extern \(.*hunkravy_.*\)/\1/p' | LC_ALL=C sort; }
 
-$(DESCRIBED): $(OUT)/$(firstword $(LEVELS))/aegis_c.a $(OUT)/both/$(SONAME)
-	mkdir -p $(@D)
-	$(CC) -std=c99 -Ic/include -O1 -g -fPIC -DHUNKRAVY_LEVEL=0 -shared \
-		-Wl,-soname,$(SONAME),--version-script=$(OUT)/both/exports.map c/library/*.c c/levels/choose.c $< -o $@
+check-abi:
+	$(INTERFACE) | diff c/abi.txt -
+	grep -c hunkravy c/abi.txt
 
-check-abi: $(DESCRIBED)
-	abidiff c/abi.xml $<
-	echo 'the interface is the one that c/abi.xml describes'
-
-abi: $(DESCRIBED)
-	abidw --no-corpus-path --no-comp-dir-path --no-show-locs --exported-interfaces-only --out-file c/abi.xml $<
+abi:
+	$(INTERFACE) > c/abi.txt
 
 # That each name is bound to the build for this processor's level, and that no build has instructions of another level.
 check-level: $(OUT)/both/libhunkravy.a $(OUT)/both/$(SONAME)
