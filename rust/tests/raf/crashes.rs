@@ -1,107 +1,75 @@
 //! Crashes at each call of commits and of openings, with anything where something was to be written.
 
-use crate::support::{
-    Bytes, Call, Disk, JOURNAL_CALLS, KEY, Part, Random, changed, crashed, disks, front_of_another,
-};
-use hunkravy::raf::{Aegis256, Error, Raf, RafBuilder};
+use crate::support::*;
+use hunkravy::raf::Result;
 use std::io::Write;
 
 /// How often each crash is tried.
 const TRIES: usize = 12;
 
-type File = Raf<Aegis256, Disk, Random, Disk>;
-
-fn open(disks: &(Disk, Disk)) -> Result<File, Error> {
-    RafBuilder::with_rng(Random(5))
-        .journal(disks.1.clone())
-        .open(disks.0.clone(), &KEY)
-}
-
-fn text_of(file: &mut File) -> Vec<u8> {
-    let mut text = vec![0; file.size() as usize];
-    assert_eq!(file.read(&mut text, 0).unwrap(), text.len());
-    text
-}
-
 /// A file of some pages, all of it synced.
 fn begun() -> (Bytes, Vec<u8>) {
-    let disks = disks(Bytes::default());
     let text = Random(8).bytes(1100);
-    let mut file = RafBuilder::<Aegis256>::with_rng(Random(6))
-        .chunk_size(256)
-        .journal(disks.1.clone())
-        .create(disks.0.clone(), &KEY)
-        .unwrap();
-    file.write(&text, 0).unwrap();
-    drop(file);
-    let bytes = (disks.0.bytes.take(), disks.1.bytes.take());
-    (bytes, text)
+    (Disks::with(&text).bytes(), text)
 }
 
-/// Changes some pages and the length.
-fn change(file: &mut File, kind: usize) {
-    match kind {
-        0 => {
-            file.write(&[1; 700], 400).unwrap();
-        }
-        1 => {
-            file.write(&[2; 10], 5).unwrap();
-            file.truncate(300).unwrap();
-        }
-        2 => {
-            file.truncate(2500).unwrap();
-            file.write(&[3; 1], 1099).unwrap();
-        }
-        3 => file.truncate(0).unwrap(),
-        // Shorter and longer again, so that zeros are in the place of what was cut off.
-        _ => {
-            file.truncate(300).unwrap();
-            file.write(&[4; 20], 900).unwrap();
-            file.truncate(1000).unwrap();
-        }
-    }
-}
-
-const KINDS: usize = 5;
+/// Changes of some pages and of the length.
+const CHANGES: [fn(&mut File) -> Result<()>; 5] = [
+    |file| file.write(&[1; 700], 400).map(drop),
+    |file| {
+        file.write(&[2; 10], 5)?;
+        file.truncate(300)
+    },
+    |file| {
+        file.truncate(2500)?;
+        file.write(&[3; 1], 1099).map(drop)
+    },
+    |file| file.truncate(0),
+    // Shorter and longer again, so that zeros are in the place of what was cut off.
+    |file| {
+        file.truncate(300)?;
+        file.write(&[4; 20], 900)?;
+        file.truncate(1000)
+    },
+];
 
 /// What a crash has left opens, to the text of before or the one after, can be changed, and opens to the changed text.
 /// Returns whether it was the one after.
 fn check_opens(bytes: &Bytes, before: &[u8], after: &[u8]) -> bool {
-    let disks = disks(bytes.clone());
-    let mut file = open(&disks).unwrap();
+    let disks = Disks::of(bytes.clone());
+    let mut file = disks.open().unwrap();
     let text = text_of(&mut file);
     assert!(text == before || text == after);
-    assert!(disks.1.bytes.borrow().is_empty());
+    assert!(disks.bytes().1.is_empty());
     file.write(&[9; 300], 200).unwrap();
     file.commit().unwrap();
     let written = text_of(&mut file);
     drop(file);
-    assert_eq!(text_of(&mut open(&disks).unwrap()), written);
+    assert_eq!(disks.text(), written);
     text == after
 }
 
 /// Opening crashes too, at each of its calls: what it leaves opens to the text of before or the one after.
 fn check_opening_crashes(bytes: &Bytes, before: &[u8], after: &[u8], random: &mut Random) {
-    let opening = disks(bytes.clone());
-    drop(open(&opening).unwrap());
-    let log = opening.0.log.borrow();
-    for count in 0..=log.calls.len() {
-        let left = crashed(bytes, &log.calls[..count], random);
+    let opening = Disks::of(bytes.clone());
+    drop(opening.open().unwrap());
+    let calls = opening.log().calls.clone();
+    for count in 0..=calls.len() {
+        let left = crashed(bytes, &calls[..count], random);
         check_opens(&left, before, after);
     }
 }
 
 /// Returns the calls of a commit, and the text after it.
-fn committed(bytes: &Bytes, kind: usize) -> (Vec<(Part, Call)>, Vec<u8>) {
-    let disks = disks(bytes.clone());
-    let mut file = open(&disks).unwrap();
-    disks.0.log.borrow_mut().calls.clear();
-    change(&mut file, kind);
-    assert!(disks.0.log.borrow().calls.is_empty());
+fn committed(bytes: &Bytes, change: fn(&mut File) -> Result<()>) -> (Vec<(Part, Call)>, Vec<u8>) {
+    let disks = Disks::of(bytes.clone());
+    let mut file = disks.open().unwrap();
+    disks.log().calls.clear();
+    change(&mut file).unwrap();
+    assert_eq!(disks.calls(), 0);
     file.commit().unwrap();
-    let after = text_of(&mut file);
-    let calls = disks.0.log.borrow().calls.clone();
-    (calls, after)
+    let calls = disks.log().calls.clone();
+    (calls, text_of(&mut file))
 }
 
 #[test]
@@ -109,8 +77,8 @@ fn each_call_of_a_commit() {
     let (bytes, before) = begun();
     let mut random = Random(77);
     let mut seen = [0; 2];
-    for kind in 0..KINDS {
-        let (calls, after) = committed(&bytes, kind);
+    for change in CHANGES {
+        let (calls, after) = committed(&bytes, change);
         for count in 0..=calls.len() {
             for _ in 0..TRIES {
                 let left = crashed(&bytes, &calls[..count], &mut random);
@@ -143,27 +111,21 @@ fn torn_fronts(journal: &[u8], front: &[u8], cut: usize) -> Vec<Vec<u8>> {
 #[test]
 fn each_torn_front_of_a_journal() {
     let (bytes, before) = begun();
-    let (calls, after) = committed(&bytes, 0);
-    let cuts = (0..=40).chain((48..=512).step_by(16));
+    let (calls, after) = committed(&bytes, CHANGES[0]);
     let mut tries = 0;
     for count in 0..=JOURNAL_CALLS {
-        let synced = calls[..count].iter().rposition(|call| call.1 == Call::Sync);
-        let pending = &calls[synced.map_or(0, |at| at + 1)..count];
-        if !pending
-            .iter()
-            .any(|call| matches!(call.1, Call::Write(0, _)))
-        {
+        let pending = calls[..count].rsplit(|call| call.1 == Call::Sync).next();
+        let is_front = |call: &(Part, Call)| matches!(call.1, Call::Write(0, _));
+        if !pending.is_some_and(|calls| calls.iter().any(is_front)) {
             continue;
         }
-        let (file, journal) = changed(&bytes, &calls[..count]);
-        for front in [front_of_another(), [0; 512], [0xff; 512]] {
-            for journal in cuts
-                .clone()
-                .flat_map(|cut| torn_fronts(&journal, &front, cut))
-            {
-                check_opens(&(file.clone(), journal), &before, &after);
-                tries += 1;
-            }
+        let (file, journal) = &changed(&bytes, &calls[..count]);
+        let fronts = [front_of_another(), [0; 512], [0xff; 512]];
+        let cuts = (0..=40).chain((48..=512).step_by(16));
+        let torn = cuts.flat_map(|cut| fronts.map(|front| torn_fronts(journal, &front, cut)));
+        for journal in torn.flatten() {
+            check_opens(&(file.clone(), journal), &before, &after);
+            tries += 1;
         }
     }
     assert!(tries > 1000, "{tries}");
@@ -175,18 +137,15 @@ fn each_torn_front_of_a_journal() {
 fn each_call_of_a_commit_and_of_an_opening_after_it() {
     let (bytes, before) = begun();
     let mut random = Random(79);
-    for kind in 0..KINDS {
-        let (calls, after) = committed(&bytes, kind);
+    for change in CHANGES {
+        let (calls, after) = committed(&bytes, change);
         for count in 0..=calls.len() {
-            let opening = disks(changed(&bytes, &calls[..count]));
-            drop(open(&opening).unwrap());
-            let mut all = calls[..count].to_vec();
-            all.extend_from_slice(&opening.0.log.borrow().calls);
-            for end in count..=all.len() {
-                for _ in 0..4 {
-                    let left = crashed(&bytes, &all[..end], &mut random);
-                    check_opens(&left, &before, &after);
-                }
+            let opening = Disks::of(changed(&bytes, &calls[..count]));
+            drop(opening.open().unwrap());
+            let all = [&calls[..count], &opening.log().calls].concat();
+            for end in (count..=all.len()).flat_map(|end| [end; 4]) {
+                let left = crashed(&bytes, &all[..end], &mut random);
+                check_opens(&left, &before, &after);
             }
         }
     }
@@ -195,24 +154,19 @@ fn each_call_of_a_commit_and_of_an_opening_after_it() {
 /// A crash while a file is created leaves none, or an empty one. Once it is created, it opens.
 #[test]
 fn each_call_of_a_creation() {
-    let creating = disks(Bytes::default());
-    let builder = RafBuilder::<Aegis256>::with_rng(Random(6)).journal(creating.1.clone());
-    drop(builder.create(creating.0.clone(), &KEY).unwrap());
-    let calls = creating.0.log.borrow().calls.clone();
+    let creating = Disks::new();
+    drop(creating.create());
+    let calls = creating.log().calls.clone();
     let mut random = Random(80);
-    let mut seen = [0; 2];
-    for count in 0..=calls.len() {
-        for _ in 0..20 {
-            let left = crashed(&Bytes::default(), &calls[..count], &mut random);
-            match open(&disks(left)) {
-                Ok(file) => assert_eq!(file.size(), 0),
-                Err(Error::Header) => assert!(count < calls.len()),
-                Err(error) => panic!("{error:?}"),
-            }
-            seen[usize::from(count == calls.len())] += 1;
-        }
+    for count in (0..=calls.len()).flat_map(|count| [count; 20]) {
+        let left = crashed(&Bytes::default(), &calls[..count], &mut random);
+        let opened = Disks::of(left)
+            .open()
+            .map(|file| assert_eq!(file.size(), 0));
+        let is_created = opened.is_ok();
+        let opened = outcome(opened);
+        assert!(is_created || opened == "Header" && count < calls.len());
     }
-    assert!(seen[0] >= 60 && seen[1] == 20, "{seen:?}");
 }
 
 /// Several commits in a row: a crash in one of them gives the text of before it or the one after it, and no older one.
@@ -220,24 +174,22 @@ fn each_call_of_a_creation() {
 fn each_call_of_several_commits() {
     let (bytes, first) = begun();
     let mut random = Random(78);
-    let disks = disks(bytes.clone());
-    let mut file = open(&disks).unwrap();
-    disks.0.log.borrow_mut().calls.clear();
+    let disks = Disks::of(bytes.clone());
+    let mut file = disks.open().unwrap();
+    disks.log().calls.clear();
     let (mut texts, mut ends) = (vec![first], vec![0]);
-    for turn in 0..6 {
-        change(&mut file, (turn + 4) % KINDS);
+    for change in CHANGES.iter().cycle().skip(4).take(6) {
+        change(&mut file).unwrap();
         file.commit().unwrap();
         texts.push(text_of(&mut file));
-        ends.push(disks.0.log.borrow().calls.len());
+        ends.push(disks.calls());
     }
-    let calls = disks.0.log.borrow().calls.clone();
-    for count in 0..=calls.len() {
+    let calls = disks.log().calls.clone();
+    for count in (0..=calls.len()).flat_map(|count| [count; 3]) {
         let commit = ends.iter().rposition(|end| *end <= count).unwrap();
         let next = (commit + 1).min(texts.len() - 1);
-        for _ in 0..3 {
-            let left = crashed(&bytes, &calls[..count], &mut random);
-            check_opens(&left, &texts[commit], &texts[next]);
-        }
+        let left = crashed(&bytes, &calls[..count], &mut random);
+        check_opens(&left, &texts[commit], &texts[next]);
     }
 }
 
@@ -246,70 +198,63 @@ fn each_call_of_several_commits() {
 #[test]
 fn each_call_that_fails() {
     let (bytes, before) = begun();
-    for kind in 0..KINDS {
+    for change in CHANGES {
         for left in 0..100 {
-            let disks = disks(bytes.clone());
-            let mut file = open(&disks).unwrap();
-            change(&mut file, kind);
+            let disks = Disks::of(bytes.clone());
+            let mut file = disks.open().unwrap();
+            change(&mut file).unwrap();
             let after = text_of(&mut file);
-            disks.0.log.borrow_mut().left = left;
-            let committed = file.commit();
-            disks.0.log.borrow_mut().left = usize::MAX;
-            if committed.is_ok() {
+            disks.leave(left);
+            let committed = outcome(file.commit());
+            disks.leave(usize::MAX);
+            if committed == "Ok" {
                 assert!(left > 5);
                 break;
             }
-            assert!(matches!(committed, Err(Error::Io(_))));
-            let failed = disks.0.log.borrow().calls.last().cloned();
+            assert_eq!(committed, "Other");
+            let failed = disks.log().calls.last().cloned();
             if matches!(failed, Some((Part::File, Call::Resize(_)))) {
                 assert_eq!(text_of(&mut file), after);
             } else {
                 check_is_broken(&mut file);
             }
-            let calls = disks.0.log.borrow().calls.len();
+            let calls = disks.calls();
             drop(file);
-            assert_eq!(disks.0.log.borrow().calls.len(), calls);
-            let bytes = (disks.0.bytes.take(), disks.1.bytes.take());
-            check_opens(&bytes, &before, &after);
+            assert_eq!(disks.calls(), calls);
+            check_opens(&disks.bytes(), &before, &after);
         }
     }
 }
 
 fn check_is_broken(file: &mut File) {
-    let mut buf = [1; 4];
-    assert!(matches!(file.read(&mut buf, 0), Err(Error::Broken)));
-    assert_eq!(buf, [0; 4]);
-    assert!(matches!(file.write(b"no", 0), Err(Error::Broken)));
-    assert!(matches!(file.truncate(0), Err(Error::Broken)));
-    assert!(matches!(file.truncate(5000), Err(Error::Broken)));
+    assert_eq!(outcome(read(file)), "Broken");
     assert!(file.cursor().write(b"").is_err());
-    assert!(matches!(file.commit(), Err(Error::Broken)));
-    assert!(matches!(file.sync(), Err(Error::Broken)));
-    assert!(matches!(file.commitment(), Err(Error::Broken)));
+    for result in [
+        file.write(b"no", 0).map(drop),
+        file.truncate(0),
+        file.truncate(5000),
+        file.commit(),
+        file.sync(),
+        file.commitment().map(drop),
+    ] {
+        assert_eq!(outcome(result), "Broken");
+    }
 }
 
 /// A call that fails while a file is opened leaves what opens.
 #[test]
 fn each_call_of_an_opening_that_fails() {
     let (bytes, before) = begun();
-    let writing = disks(bytes.clone());
-    let mut file = open(&writing).unwrap();
-    change(&mut file, 0);
-    let after = text_of(&mut file);
     // The journal is whole, and nothing is written to the file.
-    writing.0.log.borrow_mut().left = JOURNAL_CALLS;
-    assert!(file.commit().is_err());
-    drop(file);
-    let bytes = (bytes.0, writing.1.bytes.take());
+    let bytes = cut_short(&bytes, &[1; 700], 400, JOURNAL_CALLS).bytes();
+    let after = Disks::of(bytes.clone()).text();
     for left in 0..100 {
-        let disks = disks(bytes.clone());
-        disks.0.log.borrow_mut().left = left;
-        if open(&disks).is_ok() {
+        let disks = Disks::of(bytes.clone());
+        disks.leave(left);
+        if disks.open().is_ok() {
             assert!(left > 5);
             break;
         }
-        disks.0.log.borrow_mut().left = usize::MAX;
-        let bytes = (disks.0.bytes.take(), disks.1.bytes.take());
-        assert!(check_opens(&bytes, &before, &after));
+        assert!(check_opens(&disks.bytes(), &before, &after));
     }
 }

@@ -1,9 +1,9 @@
 //! Syncs that fail, as in Linux: the bytes can be read afterwards, are on the disk in part or not at all, and no later sync
 //! writes them. Also crashes, and openings that fail or crash, in any order.
 
-use crate::support::{KEY, Random, front_of, put, tear};
-use hunkravy::raf::{Aegis256, Error, Raf, RafBuilder, RafIo};
-use std::cell::RefCell;
+use crate::support::{KEY, Random, front_of, outcome, put, tear, text_of};
+use hunkravy::raf::{Aegis256, Raf, RafBuilder, RafIo, Result};
+use std::cell::{RefCell, RefMut};
 use std::io;
 use std::ops::Range;
 use std::rc::Rc;
@@ -21,33 +21,39 @@ struct Bytes {
 }
 
 impl Bytes {
+    /// Returns the places and the bytes that are dirty, and forgets that they are.
+    fn take_dirty(&mut self) -> Vec<(usize, Vec<u8>)> {
+        self.is_resized = false;
+        let end = self.read.len();
+        let dirty = std::mem::take(&mut self.dirty).into_iter();
+        let own = dirty.filter(|range| range.start < end);
+        own.map(|range| {
+            (
+                range.start,
+                self.read[range.start..range.end.min(end)].to_vec(),
+            )
+        })
+        .collect()
+    }
+
     /// Stores what is dirty.
     fn store(&mut self) {
         if self.is_resized || !self.dirty.is_empty() {
             self.stored.resize(self.read.len(), 0);
         }
-        for range in std::mem::take(&mut self.dirty) {
-            let range = range.start..range.end.min(self.read.len());
-            if !range.is_empty() {
-                self.stored[range.clone()].copy_from_slice(&self.read[range]);
-            }
+        for (place, data) in self.take_dirty() {
+            put(&mut self.stored, place as u64, &data);
         }
-        self.is_resized = false;
     }
 
-    /// Stores anything of what is dirty, and forgets that it is.
+    /// Stores anything of what is dirty.
     fn lose(&mut self, random: &mut Random) {
         let sizes = [self.stored.len(), self.read.len()];
         let size = sizes[random.below(2) as usize];
-        for range in std::mem::take(&mut self.dirty) {
-            let range = range.start..range.end.min(self.read.len());
-            if !range.is_empty() {
-                let data = self.read[range.clone()].to_vec();
-                tear(&mut self.stored, range.start as u64, &data, random);
-            }
+        for (place, data) in self.take_dirty() {
+            tear(&mut self.stored, place as u64, &data, random);
         }
         self.stored.resize(size, 0);
-        self.is_resized = false;
     }
 }
 
@@ -75,6 +81,10 @@ impl Machine {
 struct Storage(Rc<RefCell<Machine>>, usize);
 
 impl Storage {
+    fn part(&self) -> RefMut<'_, Bytes> {
+        RefMut::map(self.0.borrow_mut(), |machine| &mut machine.parts[self.1])
+    }
+
     /// Counts a call that changes something. Returns an error if the power is off.
     fn count(&self) -> io::Result<()> {
         let mut machine = self.0.borrow_mut();
@@ -86,29 +96,29 @@ impl Storage {
 
 impl RafIo for Storage {
     fn read_at(&mut self, buf: &mut [u8], offset: u64) -> io::Result<()> {
-        let machine = self.0.borrow();
-        let rest = machine.parts[self.1].read.get(offset as usize..);
-        let part = rest.and_then(|rest| rest.get(..buf.len()));
-        buf.copy_from_slice(part.ok_or(io::ErrorKind::UnexpectedEof)?);
+        let part = self.part();
+        let rest = part.read.get(offset as usize..).unwrap_or(&[]);
+        let found = rest.get(..buf.len()).ok_or(io::ErrorKind::UnexpectedEof)?;
+        buf.copy_from_slice(found);
         Ok(())
     }
 
     fn write_at(&mut self, data: &[u8], offset: u64) -> io::Result<()> {
         self.count()?;
-        let part = &mut self.0.borrow_mut().parts[self.1];
+        let mut part = self.part();
         put(&mut part.read, offset, data);
-        part.dirty
-            .push(offset as usize..offset as usize + data.len());
+        let start = offset as usize;
+        part.dirty.push(start..start + data.len());
         Ok(())
     }
 
     fn get_size(&mut self) -> io::Result<u64> {
-        Ok(self.0.borrow().parts[self.1].read.len() as u64)
+        Ok(self.part().read.len() as u64)
     }
 
     fn set_size(&mut self, size: u64) -> io::Result<()> {
         self.count()?;
-        let part = &mut self.0.borrow_mut().parts[self.1];
+        let mut part = self.part();
         part.read.resize(size as usize, 0);
         part.is_resized = true;
         Ok(())
@@ -116,20 +126,15 @@ impl RafIo for Storage {
 
     fn sync(&mut self) -> io::Result<()> {
         self.count()?;
-        let Machine {
-            parts,
-            until_failure,
-            random,
-            ..
-        } = &mut *self.0.borrow_mut();
-        let part = &mut parts[self.1];
-        if let Some(left) = until_failure.checked_sub(1) {
-            *until_failure = left;
+        let machine = &mut *self.0.borrow_mut();
+        let part = &mut machine.parts[self.1];
+        let left = machine.until_failure.checked_sub(1);
+        machine.until_failure = left.unwrap_or(usize::MAX);
+        if left.is_some() {
             part.store();
             return Ok(());
         }
-        *until_failure = usize::MAX;
-        part.lose(random);
+        part.lose(&mut machine.random);
         Err(io::Error::from_raw_os_error(5))
     }
 }
@@ -147,60 +152,59 @@ struct World {
 
 impl World {
     fn new(seed: u64) -> Self {
-        let machine = Machine {
+        let machine = Rc::new(RefCell::new(Machine {
             parts: Default::default(),
             until_failure: usize::MAX,
             until_off: usize::MAX,
             random: Random(seed ^ 0x5eed),
-        };
-        let machine = Rc::new(RefCell::new(machine));
-        let mut random = Random(seed);
-        let text = random.bytes(1100);
-        let mut file = RafBuilder::<Aegis256>::with_rng(Random(random.next()))
-            .chunk_size(256)
-            .journal(Storage(machine.clone(), 1))
-            .create(Storage(machine.clone(), 0), &KEY)
-            .unwrap();
-        file.write(&text, 0).unwrap();
-        file.commit().unwrap();
-        World {
-            machine,
-            allowed: vec![text],
-            random,
+        }));
+        let mut world = World {
+            machine: machine.clone(),
+            allowed: vec![Random(seed).bytes(1100)],
+            random: Random(seed),
             seen: [0; 3],
-        }
+        };
+        let builder = world.builder().chunk_size(256);
+        let mut file = builder.create(Storage(machine, 0), &KEY).unwrap();
+        file.write(&world.allowed[0], 0).unwrap();
+        world
+    }
+
+    fn builder(&mut self) -> RafBuilder<Aegis256, Random, Storage> {
+        let builder = RafBuilder::with_rng(Random(self.random.next()));
+        builder.journal(Storage(self.machine.clone(), 1))
+    }
+
+    fn open(&mut self) -> Result<File> {
+        let storage = Storage(self.machine.clone(), 0);
+        self.builder().open(storage, &KEY)
     }
 
     /// Lets a later sync fail, or the power, or nothing.
     fn plan(&mut self) {
         let mut machine = self.machine.borrow_mut();
-        match self.random.below(4) {
-            0 => machine.until_failure = self.random.below(5) as usize,
-            1 => machine.until_off = self.random.below(12) as usize,
-            2 => {
-                machine.until_failure = self.random.below(5) as usize;
-                machine.until_off = self.random.below(16) as usize;
-            }
-            _ => (),
+        let kind = self.random.below(4);
+        if kind % 2 == 0 {
+            machine.until_failure = self.random.below(5) as usize;
         }
-    }
-
-    fn open(&mut self) -> Result<File, Error> {
-        RafBuilder::with_rng(Random(self.random.next()))
-            .journal(Storage(self.machine.clone(), 1))
-            .open(Storage(self.machine.clone(), 0), &KEY)
+        if kind == 1 || kind == 2 {
+            machine.until_off = self.random.below(14) as usize;
+        }
     }
 
     /// Opens the file. What it then contains is certain.
     fn open_and_read(&mut self) -> Option<File> {
         self.plan();
-        let mut file = match self.open() {
+        let opened = self.open();
+        let mut file = match opened {
             Ok(file) => file,
-            Err(Error::Io(_)) => return None,
-            Err(error) => panic!("{error:?}"),
+            failed => {
+                let error = outcome(failed);
+                assert!(["NotConnected", "Uncategorized"].contains(&error.as_str()));
+                return None;
+            }
         };
-        let mut text = vec![0; file.size() as usize];
-        file.read(&mut text, 0).unwrap();
+        let text = text_of(&mut file);
         assert!(self.allowed.contains(&text));
         self.seen[2] += usize::from(self.allowed.len() > 1);
         self.allowed = vec![text];
@@ -216,12 +220,10 @@ impl World {
         self.plan();
         let written = file.write(&data, place).and_then(|_| file.commit());
         if written.is_ok() {
-            self.seen[0] += 1;
-            self.allowed = vec![text];
-        } else {
-            self.seen[1] += 1;
-            self.allowed.push(text);
+            self.allowed.clear();
         }
+        self.allowed.push(text);
+        self.seen[usize::from(written.is_err())] += 1;
         file.discard();
     }
 
@@ -232,18 +234,16 @@ impl World {
         if let Some(file) = self.open_and_read() {
             self.change(file);
         }
-        let is_off = self.machine.borrow().until_off == 0;
-        if is_off {
-            self.machine.borrow_mut().crash();
+        let mut machine = self.machine.borrow_mut();
+        if machine.until_off == 0 {
+            machine.crash();
         }
     }
 
     /// After the last crash the file opens.
     fn end(&mut self) {
         self.machine.borrow_mut().crash();
-        let mut file = self.open().unwrap();
-        let mut text = vec![0; file.size() as usize];
-        file.read(&mut text, 0).unwrap();
+        let text = text_of(&mut self.open().unwrap());
         assert!(self.allowed.contains(&text));
     }
 }
@@ -270,9 +270,9 @@ fn failed_syncs_and_crashes() {
 fn a_journal_that_is_emptied_twice() {
     for seed in 1..200 {
         let mut world = World::new(seed);
-        let mut torn = front_of(&world.machine.borrow().parts[0].read).to_vec();
-        torn.resize(2000, 5);
         let machine = world.machine.clone();
+        let mut torn = front_of(&machine.borrow().parts[0].read).to_vec();
+        torn.resize(2000, 5);
         machine.borrow_mut().parts[1].read = torn.clone();
         machine.borrow_mut().parts[1].stored = torn;
         machine.borrow_mut().until_failure = seed as usize % 3;

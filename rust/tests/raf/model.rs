@@ -1,14 +1,14 @@
 //! Random reads and changes, beside a vector that holds the same text.
 
-use crate::support::{Disk, Random, disks};
+use crate::support::{Disk, Disks, Random, put};
 use hunkravy::raf::*;
 
 /// A file, its text now and at the last commit, and the disks.
 struct Model<A: Algorithm> {
-    file: Raf<A, Disk, Random, Disk>,
+    file: Option<Raf<A, Disk, Random, Disk>>,
     text: Vec<u8>,
     committed: Vec<u8>,
-    disks: (Disk, Disk),
+    disks: Disks,
     key: A::Key,
     random: Random,
     limit: usize,
@@ -17,88 +17,78 @@ struct Model<A: Algorithm> {
 
 impl<A: Algorithm> Model<A> {
     fn new(chunk_size: u32, limit: usize) -> Self {
-        let mut random = Random(u64::from(chunk_size) * 7 + limit as u64 % 1000 + 1);
-        let disks = disks((Vec::new(), Vec::new()));
-        let mut key = A::Key::default();
-        key.as_mut().fill(3);
-        let builder = RafBuilder::<A>::with_rng(Random(random.next()));
-        let file = builder
-            .chunk_size(chunk_size)
-            .buffer_limit(limit)
-            .journal(disks.1.clone())
-            .create(disks.0.clone(), &key)
-            .unwrap();
-        Model {
-            file,
+        let mut model = Model {
+            file: None,
             text: Vec::new(),
             committed: Vec::new(),
-            disks,
-            key,
-            random,
+            disks: Disks::new(),
+            key: A::Key::default(),
+            random: Random(u64::from(chunk_size) * 7 + limit as u64 % 1000 + 1),
             limit,
             most: 9 * u64::from(chunk_size) + 17,
-        }
+        };
+        let builder = model.builder().chunk_size(chunk_size);
+        let created = builder.create(model.disks.file.clone(), &model.key);
+        model.file = Some(created.unwrap());
+        model
+    }
+
+    fn builder(&mut self) -> RafBuilder<A, Random, Disk> {
+        let builder = RafBuilder::with_rng(Random(self.random.next()));
+        builder
+            .buffer_limit(self.limit)
+            .journal(self.disks.journal.clone())
+    }
+
+    fn file(&mut self) -> &mut Raf<A, Disk, Random, Disk> {
+        self.file.as_mut().unwrap()
     }
 
     fn change(&mut self) {
         let offset = self.random.below(self.most);
         if self.random.below(5) == 0 {
-            self.file.truncate(offset).unwrap();
+            self.file().truncate(offset).unwrap();
             self.text.resize(offset as usize, 0);
             return;
         }
         let count = self.random.below(self.most - offset) as usize;
-        let count = if self.random.below(2) == 0 {
-            count
-        } else {
-            count % 40
-        };
-        let data = self.random.bytes(count);
-        assert_eq!(self.file.write(&data, offset).unwrap(), data.len());
+        let is_short = self.random.below(2) == 0;
+        let data = self.random.bytes(if is_short { count % 40 } else { count });
+        assert_eq!(self.file().write(&data, offset).unwrap(), data.len());
         if !data.is_empty() || offset as usize > self.text.len() {
-            crate::support::put(&mut self.text, offset, &data);
+            put(&mut self.text, offset, &data);
         }
     }
 
     fn reopen(&mut self) {
         // Its changes are forgotten, so that dropping it commits none.
-        self.file.discard();
-        let builder = RafBuilder::<A>::with_rng(Random(self.random.next()));
-        self.file = builder
-            .buffer_limit(self.limit)
-            .journal(self.disks.1.clone())
-            .open(self.disks.0.clone(), &self.key)
-            .unwrap();
+        self.file().discard();
+        let opened = self.builder().open(self.disks.file.clone(), &self.key);
+        self.file = Some(opened.unwrap());
     }
 
     fn step(&mut self) {
         match self.random.below(10) {
-            0 => {
-                self.file.discard();
-                self.text = self.committed.clone();
-            }
+            0 => self.file().discard(),
             1 => {
-                self.file.commit().unwrap();
+                self.file().commit().unwrap();
                 self.committed = self.text.clone();
             }
-            2 => {
-                self.reopen();
-                self.text = self.committed.clone();
-            }
-            _ => self.change(),
+            2 => self.reopen(),
+            _ => return self.change(),
         }
-        self.compare();
+        self.text = self.committed.clone();
     }
 
     fn compare(&mut self) {
-        assert_eq!(self.file.size(), self.text.len() as u64);
+        assert_eq!(self.file().size(), self.text.len() as u64);
         let (offset, count) = (self.random.below(self.most), self.random.below(self.most));
         let mut buf = vec![1; count as usize];
-        let count = self.file.read(&mut buf, offset).unwrap();
+        let count = self.file().read(&mut buf, offset).unwrap();
         let rest = self.text.get(offset as usize..).unwrap_or(&[]);
         assert_eq!(buf[..count], rest[..rest.len().min(buf.len())]);
         assert!(buf[count..].iter().all(|byte| *byte == 1));
-        assert!(self.disks.1.bytes.borrow().is_empty());
+        assert!(self.disks.journal.bytes.borrow().is_empty());
     }
 }
 
@@ -107,8 +97,9 @@ fn random_changes<A: Algorithm>(algorithm: AlgorithmId) {
         let mut model = Model::<A>::new(chunk_size, usize::MAX);
         for _ in 0..400 {
             model.step();
+            model.compare();
         }
-        let info = probe(&mut model.disks.0).unwrap();
+        let info = probe(&mut model.disks.file).unwrap();
         assert_eq!((info.algorithm, info.chunk_size), (algorithm, chunk_size));
     }
 }
@@ -131,7 +122,7 @@ fn random_changes_that_are_committed() {
         model.change();
         model.compare();
         if turn % 20 == 0 {
-            model.file.commit().unwrap();
+            model.file().commit().unwrap();
             model.reopen();
             model.compare();
         }

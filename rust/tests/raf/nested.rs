@@ -1,41 +1,64 @@
-//! Batches inside batches, and files that a batch puts elsewhere.
+//! Batches that fail, batches inside batches, and files that a batch puts elsewhere.
 
-use crate::support::{Bytes, Disk, KEY, Random, disks};
-use hunkravy::raf::{Aegis256, Error, Raf, RafBuilder, Result};
+use crate::support::*;
+use hunkravy::raf::{Error, Result};
 use std::io::Write;
 use std::mem::{replace, swap};
 use std::panic::{AssertUnwindSafe, catch_unwind};
 
-type File = Raf<Aegis256, Disk, Random, Disk>;
-
 /// A file whose contents are this text, with a limit on changes of 600 bytes.
-fn with_text(text: &[u8]) -> (File, (Disk, Disk)) {
-    let disks = disks(Bytes::default());
-    let mut file = RafBuilder::with_rng(Random(5))
-        .chunk_size(256)
-        .buffer_limit(600)
-        .journal(disks.1.clone())
-        .create(disks.0.clone(), &KEY)
-        .unwrap();
-    file.write(text, 0).unwrap();
-    file.commit().unwrap();
-    (file, disks)
+fn with_text(text: &[u8]) -> (File, Disks) {
+    let disks = Disks::with(text);
+    let builder = disks.builder().buffer_limit(600);
+    (builder.open(disks.file.clone(), &KEY).unwrap(), disks)
 }
 
-fn text_of(file: &mut File) -> Vec<u8> {
-    let mut text = vec![9; file.size() as usize];
-    assert_eq!(file.read(&mut text, 0).unwrap(), text.len());
-    text
+/// A batch that panics after a change.
+fn panics(file: &mut File, change: fn(&mut File) -> Result<()>) {
+    let batch = AssertUnwindSafe(|| {
+        file.batch(|file| -> Result<()> {
+            change(file)?;
+            panic!("in the middle of a batch");
+        })
+    });
+    assert!(catch_unwind(batch).is_err());
 }
 
-/// The text as it is on the disks.
-fn stored(disks: &(Disk, Disk)) -> Vec<u8> {
-    let copies = crate::support::disks((
-        disks.0.bytes.borrow().clone(),
-        disks.1.bytes.borrow().clone(),
-    ));
-    let builder = RafBuilder::with_rng(Random(50)).journal(copies.1.clone());
-    text_of(&mut builder.open(copies.0.clone(), &KEY).unwrap())
+/// A batch is committed by itself, whatever the limit on changes in memory.
+#[test]
+fn a_batch() {
+    let (mut file, disks) = with_text(b"");
+    let written = file.batch(|file| {
+        file.write(&[1; 1000], 0)?;
+        assert_eq!(disks.text(), b"");
+        file.write(b"end", 1000)
+    });
+    assert_eq!(written.unwrap(), 3);
+    std::mem::forget(file);
+    assert_eq!(disks.text(), [&[1; 1000][..], b"end"].concat());
+}
+
+/// A batch that fails, panics or is not committed leaves the contents as they were, and commits what was changed before it.
+#[test]
+fn a_batch_that_fails() {
+    let disks = Disks::new();
+    let mut file = disks.create();
+    file.write(b"before", 0).unwrap();
+    let failed: Result<()> = file.batch(|file| {
+        file.write(b"lost", 0)?;
+        Err(Error::TooLong)
+    });
+    assert_eq!(outcome(failed), "TooLong");
+    panics(&mut file, |file| file.truncate(0));
+    let failed = file.batch(|file| {
+        disks.log().reads_left = 0;
+        file.write(&[1; 256], 0)
+    });
+    assert_eq!(outcome(failed), "Other");
+    disks.log().reads_left = usize::MAX;
+    assert_eq!(text_of(&mut file), b"before");
+    drop(file);
+    assert_eq!(disks.text(), b"before");
 }
 
 /// An inner batch commits nothing: if the outer one fails, the changes of both are discarded.
@@ -47,46 +70,39 @@ fn an_outer_batch_that_fails() {
         file.batch(|file| file.write(&[1; 2000], 1))?;
         file.cursor().write_all(b"C")?;
         file.cursor().flush()?;
-        assert_eq!((stored(&disks), file.size()), (b"0000".to_vec(), 2001));
+        assert_eq!((disks.text(), file.size()), (b"0000".to_vec(), 2001));
         Err(Error::Commitment)
     });
-    assert!(matches!(made, Err(Error::Commitment)));
+    assert_eq!(outcome(made), "Commitment");
     assert_eq!(text_of(&mut file), b"0000");
     // After it the limit holds again, and a flush commits.
     file.write(&[2; 2000], 0).unwrap();
-    assert_eq!(stored(&disks), [2; 2000]);
+    assert_eq!(disks.text(), [2; 2000]);
     file.truncate(1).unwrap();
     file.cursor().flush().unwrap();
-    assert_eq!(stored(&disks), [2]);
+    assert_eq!(disks.text(), [2]);
 }
 
 /// An inner batch that fails or panics takes back its own changes, and the outer one commits the others.
 #[test]
 fn an_inner_batch_that_fails() {
     let (mut file, disks) = with_text(b"0000");
-    file.batch(|file| {
+    let made = file.batch(|file| {
         file.write(b"A", 0)?;
-        let failed = file.batch(|file| {
+        let failed: Result<()> = file.batch(|file| {
             file.write(&[1; 900], 2)?;
             file.truncate(0)?;
-            Err::<(), _>(Error::Commitment)
+            Err(Error::Commitment)
         });
-        assert!(matches!(failed, Err(Error::Commitment)));
+        assert_eq!(outcome(failed), "Commitment");
         assert_eq!(text_of(file), b"A000");
-        let panics = catch_unwind(AssertUnwindSafe(|| {
-            file.batch(|file| -> Result<()> {
-                file.write(b"BB", 2)?;
-                panic!("in an inner batch");
-            })
-        }));
-        assert!(panics.is_err());
+        panics(file, |file| file.write(b"BB", 2).map(drop));
         file.batch(|file| file.write(b"C", 3))
-    })
-    .unwrap();
+    });
+    assert_eq!(outcome(made), "Ok");
     assert_eq!(text_of(&mut file), b"A00C");
-    assert_eq!(stored(&disks), b"A00C");
     drop(file);
-    assert_eq!(stored(&disks), b"A00C");
+    assert_eq!(disks.text(), b"A00C");
 }
 
 /// After a commit in an inner batch, that batch can take back what was changed since then.
@@ -101,58 +117,43 @@ fn a_commit_in_an_inner_batch() {
             file.write(b"C", 2)?;
             Err(Error::Commitment)
         });
-        assert!(failed.is_err());
+        assert_eq!(outcome(failed), "Commitment");
         assert_eq!(text_of(file), b"AB00");
         file.write(b"D", 3)?;
         Err(Error::Commitment)
     });
-    assert!(made.is_err());
-    assert_eq!(
-        (text_of(&mut file), stored(&disks)),
-        (b"AB00".to_vec(), b"AB00".to_vec())
-    );
+    assert_eq!(outcome(made), "Commitment");
+    assert_eq!([text_of(&mut file), disks.text()], [b"AB00"; 2]);
 }
 
 /// A batch neither commits nor discards if another file is in the place of its own, whose changes stay with it.
 #[test]
 fn files_that_are_swapped_in_a_batch() {
-    for is_ok in [true, false] {
+    for end in [Ok(()), Err(Error::Commitment)] {
         let (mut one, its_disks) = with_text(b"1111");
         let (mut other, other_disks) = with_text(b"2222");
         other.write(b"o", 0).unwrap();
+        let is_ok = end.is_ok();
         let made = one.batch(|file| {
             file.write(b"i", 0)?;
             swap(file, &mut other);
-            if is_ok {
-                Ok(())
-            } else {
-                Err(Error::Commitment)
-            }
+            end
         });
-        assert!(matches!(made, Err(Error::Moved)) == is_ok && made.is_err());
+        let expected = if is_ok { "Moved" } else { "Commitment" };
+        assert_eq!(outcome(made), expected);
         // They are at each other's place.
-        assert_eq!(
-            (text_of(&mut one), text_of(&mut other)),
-            (b"o222".to_vec(), b"i111".to_vec())
-        );
-        assert_eq!(
-            (stored(&its_disks), stored(&other_disks)),
-            (b"1111".to_vec(), b"2222".to_vec())
-        );
+        assert_eq!([text_of(&mut one), text_of(&mut other)], [b"o222", b"i111"]);
+        assert_eq!([its_disks.text(), other_disks.text()], [b"1111", b"2222"]);
         if is_ok {
             drop((one, other));
-            assert_eq!(stored(&other_disks), b"o222");
-            assert_eq!(
-                stored(&its_disks),
-                b"1111",
-                "a part of a batch is not committed"
-            );
+            // A part of a batch is not committed.
+            assert_eq!([its_disks.text(), other_disks.text()], [b"1111", b"o222"]);
         } else {
             // The limit and a flush are those outside a batch.
             other.cursor().flush().unwrap();
-            assert_eq!(stored(&its_disks), b"i111");
+            assert_eq!(its_disks.text(), b"i111");
             other.write(&[3; 1000], 0).unwrap();
-            assert_eq!(stored(&its_disks), [3; 1000]);
+            assert_eq!(its_disks.text(), [3; 1000]);
         }
     }
 }
@@ -162,7 +163,7 @@ fn files_that_are_swapped_in_a_batch() {
 fn files_that_are_swapped_back() {
     let (mut one, its_disks) = with_text(b"1111");
     let (mut other, other_disks) = with_text(b"2222");
-    one.batch(|one| {
+    let made: Result<()> = one.batch(|one| {
         one.write(b"i", 0)?;
         let inner: Result<()> = other.batch(|other| {
             other.write(b"o", 0)?;
@@ -170,14 +171,11 @@ fn files_that_are_swapped_back() {
             swap(one, other);
             Err(Error::Commitment)
         });
-        assert!(inner.is_err());
-        Ok::<_, Error>(())
-    })
-    .unwrap();
-    assert_eq!(
-        (stored(&its_disks), stored(&other_disks)),
-        (b"i111".to_vec(), b"2222".to_vec())
-    );
+        assert_eq!(outcome(inner), "Commitment");
+        Ok(())
+    });
+    assert_eq!(outcome(made), "Ok");
+    assert_eq!([its_disks.text(), other_disks.text()], [b"i111", b"2222"]);
     assert_eq!(text_of(&mut other), b"2222");
 }
 
@@ -187,14 +185,13 @@ fn a_file_that_is_replaced_in_a_batch() {
     let (mut file, disks) = with_text(b"1111");
     let (next, next_disks) = with_text(b"2222");
     file.write(b"before", 0).unwrap();
-    let made: Result<()> = file.batch(|file| {
+    let made = file.batch(|file| {
         file.write(b"i", 0)?;
         drop(replace(file, next));
-        file.write(b"n", 0)?;
-        Ok(())
+        file.write(b"n", 0)
     });
-    assert!(matches!(made, Err(Error::Moved)));
-    assert_eq!(stored(&disks), b"before");
+    assert_eq!(outcome(made), "Moved");
+    assert_eq!(disks.text(), b"before");
     drop(file);
-    assert_eq!(stored(&next_disks), b"n222");
+    assert_eq!(next_disks.text(), b"n222");
 }

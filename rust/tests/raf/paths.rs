@@ -1,527 +1,342 @@
 //! Files at paths: their journals, locks and cursors.
 
-use crate::support::{At, Before, FailingRandom, JOURNAL_CALLS, KEY, Random, disks};
+use crate::support::*;
 use hunkravy::raf::*;
 use std::collections::HashSet;
 use std::fs;
-use std::io::{self, Read, Seek, SeekFrom, Write};
-use std::path::{Path, PathBuf};
+use std::io::{Read, Seek, SeekFrom, Write};
+use std::os::unix::fs::symlink;
 use std::process::Command;
-
-/// A folder that is removed when it is dropped.
-pub struct Folder(PathBuf);
-
-impl Folder {
-    pub fn new(name: &str) -> Self {
-        let folder = std::env::temp_dir().join(format!("hunkravy-{name}-{}", std::process::id()));
-        let _ = fs::remove_dir_all(&folder);
-        fs::create_dir(&folder).unwrap();
-        Folder(folder)
-    }
-
-    pub fn path(&self, name: &str) -> PathBuf {
-        self.0.join(name)
-    }
-
-    /// The names of the files in it.
-    pub fn names(&self) -> Vec<String> {
-        let mut names: Vec<String> = fs::read_dir(&self.0)
-            .unwrap()
-            .map(|entry| entry.unwrap().file_name().into_string().unwrap())
-            .collect();
-        names.sort();
-        names
-    }
-}
-
-impl Drop for Folder {
-    fn drop(&mut self) {
-        let _ = fs::remove_dir_all(&self.0);
-    }
-}
-
-pub fn create(path: &Path) -> Result<Raf<Aegis256>> {
-    Raf::<Aegis256>::create_file(path, &KEY)
-}
-
-pub fn open(path: &Path) -> Result<Raf<Aegis256>> {
-    Raf::<Aegis256>::open_file(path, &KEY)
-}
-
-pub fn read(file: &mut Raf<Aegis256>) -> Vec<u8> {
-    let mut text = vec![0; file.size() as usize];
-    file.read(&mut text, 0).unwrap();
-    text
-}
 
 #[test]
 fn a_file_has_no_journal_between_commits() {
-    let folder = Folder::new("between");
-    let path = folder.path("file");
-    let mut file = create(&path).unwrap();
-    assert_eq!(folder.names(), ["file"]);
+    let folder = Folder::new();
+    let mut file = folder.create().unwrap();
     for turn in 0..3 {
+        assert_eq!(folder.names(), ["file"]);
         file.write(b"text", turn).unwrap();
         file.commit().unwrap();
-        assert_eq!(folder.names(), ["file"]);
     }
     drop(file);
-    assert_eq!(read(&mut open(&path).unwrap()), b"tttext");
-    assert_eq!(folder.names(), ["file"]);
-}
-
-/// A commit that cannot make its journal leaves the file as it was, and its changes in memory.
-#[test]
-fn a_journal_that_cannot_be_written() {
-    let folder = Folder::new("unwritable");
-    let path = folder.path("file");
-    let mut file = create(&path).unwrap();
-    file.write(b"before", 0).unwrap();
-    file.commit().unwrap();
-    file.write(b"after!", 0).unwrap();
-    fs::create_dir(folder.path("file.journal")).unwrap();
-    assert!(matches!(file.commit(), Err(Error::Io(_))));
-    drop(file);
-    fs::remove_dir(folder.path("file.journal")).unwrap();
-    let mut file = open(&path).unwrap();
-    assert_eq!(read(&mut file), b"before");
-    file.write(b"after!", 0).unwrap();
-    fs::create_dir(folder.path("file.journal")).unwrap();
-    assert!(file.commit().is_err());
-    fs::remove_dir(folder.path("file.journal")).unwrap();
-    file.commit().unwrap();
-    drop(file);
-    assert_eq!(read(&mut open(&path).unwrap()), b"after!");
+    assert_eq!(folder.text(), b"tttext");
     assert_eq!(folder.names(), ["file"]);
 }
 
 /// A whole journal that lies beside a file is completed, and a torn one is left out; both are then gone.
 #[test]
 fn journals_beside_a_file() {
-    let folder = Folder::new("beside");
-    let (path, journal) = (folder.path("file"), folder.path("file.journal"));
-    let mut file = RafBuilder::<Aegis256>::new()
-        .create_file(&path, &KEY)
-        .unwrap();
-    file.write(b"before", 0).unwrap();
-    drop(file);
+    let folder = Folder::with(b"before");
+    let before = fs::read(folder.file()).unwrap();
     // The same commit over a copy in memory gives the journal.
-    let before = fs::read(&path).unwrap();
-    let disks = crate::support::disks((before.clone(), Vec::new()));
-    let mut copy = RafBuilder::<Aegis256>::with_rng(Random(9))
-        .journal(disks.1.clone())
-        .open(disks.0.clone(), &KEY)
-        .unwrap();
-    copy.write(b"after!", 0).unwrap();
-    disks.0.log.borrow_mut().left = JOURNAL_CALLS;
-    assert!(copy.commit().is_err());
-    let whole = disks.1.bytes.borrow().clone();
-    for (bytes, text) in [
-        (&whole[..], b"after!"),
-        (&whole[..whole.len() - 1], b"before"),
-        (&whole[..5], b"before"),
-        (&[], b"before"),
-    ] {
-        fs::write(&path, &before).unwrap();
-        fs::write(&journal, bytes).unwrap();
-        assert_eq!(read(&mut open(&path).unwrap()), text);
+    let copy = (before.clone(), Vec::new());
+    let (_, whole) = cut_short(&copy, b"after!", 0, JOURNAL_CALLS).bytes();
+    let put = |length| {
+        fs::write(folder.file(), &before).unwrap();
+        fs::write(folder.journal(), &whole[..length]).unwrap();
+    };
+    // By the file's storage too.
+    let by_storage = || {
+        let io = FileIo::open(folder.file())?;
+        RafBuilder::new().open(io, &KEY)
+    };
+    for length in [whole.len(), whole.len() - 1, 5, 0] {
+        let is_whole = length == whole.len();
+        let text = if is_whole { b"after!" } else { b"before" };
+        put(length);
+        assert_eq!(folder.text(), text);
         assert_eq!(folder.names(), ["file"]);
-        // By the file's storage too.
-        fs::write(&path, &before).unwrap();
-        fs::write(&journal, bytes).unwrap();
-        let io = FileIo::open(&path).unwrap();
-        let mut file = RafBuilder::<Aegis256>::new().open(io, &KEY).unwrap();
-        assert_eq!(read(&mut file), text);
+        put(length);
+        assert_eq!(text_of(&mut by_storage().unwrap()), text);
         assert_eq!(folder.names(), ["file"]);
     }
     // A new file is not made over a journal, and nothing is changed.
-    fs::write(&path, &before).unwrap();
-    fs::write(&journal, &whole).unwrap();
-    let over = RafBuilder::<Aegis256>::new()
-        .truncate(true)
-        .create_file(&path, &KEY);
-    assert!(matches!(over, Err(Error::Journal)));
-    assert_eq!(
-        (fs::read(&path).unwrap(), fs::read(&journal).unwrap()),
-        (before, whole)
-    );
-    fs::remove_file(&path).unwrap();
-    assert!(matches!(create(&path), Err(Error::Journal)));
+    put(whole.len());
+    assert_eq!(outcome(folder.create_over()), "Journal");
+    assert_eq!(fs::read(folder.file()).unwrap(), before);
+    assert_eq!(fs::read(folder.journal()).unwrap(), whole);
+    fs::remove_file(folder.file()).unwrap();
+    assert_eq!(outcome(folder.create()), "Journal");
     assert_eq!(folder.names(), ["file.journal"]);
 }
 
 #[test]
 fn a_second_writer_is_refused() {
-    let folder = Folder::new("locked");
-    let path = folder.path("file");
-    let mut file = create(&path).unwrap();
-    file.write(b"text", 0).unwrap();
-    file.commit().unwrap();
-    let bytes = fs::read(&path).unwrap();
-    assert!(matches!(open(&path), Err(Error::Locked)));
-    let over = RafBuilder::<Aegis256>::new()
-        .truncate(true)
-        .create_file(&path, &KEY);
-    assert!(matches!(over, Err(Error::Locked)));
-    let io = FileIo::open(&path).unwrap();
-    let builder = RafBuilder::<Aegis256>::new();
-    assert!(matches!(builder.open(io, &KEY), Err(Error::Locked)));
-    assert_eq!(fs::read(&path).unwrap(), bytes);
+    let folder = Folder::with(b"text");
+    let file = folder.open().unwrap();
+    let bytes = fs::read(folder.file()).unwrap();
+    let io = || FileIo::open(folder.file()).unwrap();
+    let second = RafBuilder::<Aegis256>::new().open(io(), &KEY);
+    for refused in [folder.open(), folder.create_over(), second] {
+        assert_eq!(outcome(refused), "Locked");
+    }
+    assert_eq!(fs::read(folder.file()).unwrap(), bytes);
     // It may be probed.
-    let info = probe(&mut FileIo::open(&path).unwrap()).unwrap();
-    assert_eq!(
-        (info.chunk_size, info.algorithm),
-        (4032, AlgorithmId::Aegis256)
-    );
+    let found = probe(&mut io()).unwrap();
+    let expected = (4032, AlgorithmId::Aegis256);
+    assert_eq!((found.chunk_size, found.algorithm), expected);
     drop(file);
-    drop(open(&path).unwrap());
-    assert!(open(&path).is_ok());
+    for _ in 0..2 {
+        assert_eq!(folder.text(), b"text");
+    }
 }
 
-/// A lock ends with its file, even if a descriptor of it is still open, as one is in a process that is being started.
+/// A lock ends with its file, even if a copy of the descriptor is still open, as one is in a process that is being started. Until
+/// then the copy shares it, and what has not locked the file does not unlock it.
 #[test]
-fn a_lock_ends() {
-    let folder = Folder::new("unlocked");
-    let path = folder.path("file");
-    drop(create(&path).unwrap());
+fn locks_of_descriptors() {
+    let folder = Folder::with(b"");
     let mut options = fs::File::options();
-    let file = options.read(true).write(true).open(&path).unwrap();
-    let descriptor = file.try_clone().unwrap();
-    let builder = RafBuilder::<Aegis256>::new();
-    let file = builder.open(FileIo::new(file), &KEY).unwrap();
-    assert!(matches!(open(&path), Err(Error::Locked)));
-    drop(file);
-    drop(open(&path).unwrap());
-    drop(descriptor);
+    let file = options.read(true).write(true).open(folder.file()).unwrap();
+    let copy = || FileIo::new(file.try_clone().unwrap());
+    let over_copy = RafBuilder::<Aegis256>::new().open(copy(), &KEY).unwrap();
+    probe(&mut copy()).unwrap();
+    assert_eq!(outcome(folder.open()), "Locked");
+    drop(over_copy);
+    assert_eq!(outcome(folder.open()), "Ok");
 }
 
 /// A link to a file and the file itself have one journal.
 #[test]
 fn links_to_a_file() {
-    let folder = Folder::new("links");
-    let (path, link) = (folder.path("file"), folder.path("link"));
-    drop(create(&path).unwrap());
-    std::os::unix::fs::symlink(&path, &link).unwrap();
-    fs::write(folder.path("file.journal"), b"torn").unwrap();
-    drop(open(&link).unwrap());
+    let folder = Folder::with(b"");
+    symlink(folder.file(), folder.path("link")).unwrap();
+    fs::write(folder.journal(), b"torn").unwrap();
+    drop(Raf::<Aegis256>::open_file(folder.path("link"), &KEY).unwrap());
     assert_eq!(folder.names(), ["file", "link"]);
 }
 
 /// However a file is made, it has a journal: here one that cannot be written.
 #[test]
 fn each_way_to_create_a_file() {
-    let folder = Folder::new("ways");
-    let (path, link) = (folder.path("file"), folder.path("link"));
-    std::os::unix::fs::symlink(&path, &link).unwrap();
-    let builder = || RafBuilder::<Aegis256>::new().truncate(true);
-    let ways: [&dyn Fn() -> Result<Raf<Aegis256>>; 4] = [
-        // The link leads to no file yet.
-        &|| builder().create_file(&link, &KEY),
-        &|| builder().create_file(&path, &KEY),
-        &|| builder().create(FileIo::create(&path)?, &KEY),
-        &|| builder().create(FileIo::open(&link)?, &KEY),
-    ];
-    for way in ways {
-        let mut file = way().unwrap();
-        fs::create_dir(folder.path("file.journal")).unwrap();
+    let folder = Folder::new();
+    let (path, link) = (folder.file(), folder.path("link"));
+    symlink(&path, &link).unwrap();
+    let is_written = |created: Result<Raf<Aegis256>>| {
+        let mut file = created.unwrap();
+        fs::create_dir(folder.journal()).unwrap();
         file.write(b"text", 0).unwrap();
-        assert!(file.commit().is_err());
-        fs::remove_dir(folder.path("file.journal")).unwrap();
-    }
+        let committed = file.commit();
+        fs::remove_dir(folder.journal()).unwrap();
+        committed.is_ok()
+    };
+    // The link leads to no file yet.
+    assert!(!is_written(over().create_file(&link, &KEY)));
+    assert!(!is_written(folder.create_over()));
+    let io = FileIo::create(&path).unwrap();
+    assert!(!is_written(over().create(io, &KEY)));
+    let io = FileIo::open(&link).unwrap();
+    assert!(!is_written(over().create(io, &KEY)));
     // But not if its path is not known.
     let io = fs::File::options().read(true).write(true).open(&path);
-    let mut file = builder().create(FileIo::new(io.unwrap()), &KEY).unwrap();
-    fs::create_dir(folder.path("file.journal")).unwrap();
-    file.write(b"text", 0).unwrap();
-    file.commit().unwrap();
+    let io = FileIo::new(io.unwrap());
+    assert!(is_written(over().create(io, &KEY)));
 }
 
 /// The system's bytes differ from draw to draw, at each place. The chance of fewer values is below 2^-100.
 #[test]
 fn the_bytes_of_the_system() {
     let mut rng = OsRng::default();
-    let draws: Vec<[u8; 32]> = std::iter::repeat_with(|| {
-        let mut drawn = [0; 32];
-        rng.fill(&mut drawn).unwrap();
-        drawn
-    })
-    .take(64)
-    .collect();
+    let mut draws = [[0; 32]; 64];
+    for drawn in &mut draws {
+        rng.fill(drawn).unwrap();
+    }
     for place in 0..32 {
         let values: HashSet<u8> = draws.iter().map(|drawn| drawn[place]).collect();
         assert!(values.len() > 20, "{place}: {values:?}");
     }
 }
 
-/// Another process gets other bytes from the system, and so does the next one.
+/// This test runs itself again: another process gets other bytes from the system, and so does the next one.
 #[test]
 fn the_bytes_of_another_process() {
+    const VARIABLE: &str = "HUNKRAVY_SHOWS_RANDOM";
     let mut drawn = [0; 16];
     OsRng::default().fill(&mut drawn).unwrap();
-    if std::env::var_os("HUNKRAVY_SHOWS_RANDOM").is_some() {
-        println!("random {drawn:?}");
+    if std::env::var_os(VARIABLE).is_some() {
+        eprintln!("{drawn:?}");
         return;
     }
     let shown = || {
         let mut test = Command::new(std::env::current_exe().unwrap());
-        test.args([
-            "--exact",
-            "paths::the_bytes_of_another_process",
-            "--nocapture",
-        ]);
-        let output = test.env("HUNKRAVY_SHOWS_RANDOM", "1").output().unwrap();
-        let text = String::from_utf8(output.stdout).unwrap();
-        let (_, bytes) = text.split_once("random ").unwrap();
-        bytes.split_once(']').unwrap().0.to_owned()
+        test.args(["paths::the_bytes_of_another_process", "--nocapture"]);
+        test.env(VARIABLE, "1").output().unwrap().stderr
     };
-    assert_ne!(shown(), shown());
+    let first = shown();
+    assert!(first.len() > 30 && first != shown());
 }
 
 /// The id of a file, and the nonce of each header and page, are drawn.
 #[test]
 fn files_differ() {
-    let folder = Folder::new("differ");
     let mut seen = HashSet::new();
-    for number in 0..4 {
-        let path = folder.path(&number.to_string());
-        let mut file = create(&path).unwrap();
+    for _ in 0..4 {
+        let folder = Folder::new();
+        let mut file = folder.create().unwrap();
         for _ in 0..3 {
             file.write(b"same", 0).unwrap();
             file.commit().unwrap();
-            let bytes = fs::read(&path).unwrap();
+            let bytes = fs::read(folder.file()).unwrap();
             assert!(seen.insert(bytes[33..65].to_vec()) && seen.insert(bytes[4096..4128].to_vec()));
         }
-        assert!(seen.insert(fs::read(&path).unwrap()[9..33].to_vec()));
+        assert!(seen.insert(fs::read(folder.file()).unwrap()[9..33].to_vec()));
     }
 }
 
 /// What is refused before a file is made makes none, and keeps one that is there.
 #[test]
 fn refused_before_anything_is_changed() {
-    let folder = Folder::new("refused");
-    let path = folder.path("file");
-    for left in 0..2 {
-        let failing = FailingRandom(Random(1), left);
-        let refused = RafBuilder::<Aegis256>::with_rng(failing).create_file(&path, &KEY);
-        assert!(matches!(refused, Err(Error::Io(_))));
+    let folder = Folder::new();
+    let path = folder.file();
+    for calls in 0..2 {
+        let builder = RafBuilder::<Aegis256>::with_rng(failing(calls));
+        assert_eq!(outcome(builder.create_file(&path, &KEY)), "UnexpectedEof");
         assert!(folder.names().is_empty());
     }
-    create(&path).unwrap().write(b"kept", 0).unwrap();
-    let builder = || RafBuilder::<Aegis256>::new().truncate(true);
-    let refused = builder().chunk_size(65_537).create_file(&path, &KEY);
-    assert!(matches!(refused, Err(Error::ChunkSize)));
-    let failing = builder().rng(FailingRandom(Random(1), 1));
-    assert!(failing.create_file(&path, &KEY).is_err());
-    assert!(
-        matches!(create(&path), Err(Error::Io(error)) if error.kind() == io::ErrorKind::AlreadyExists)
-    );
-    assert_eq!(read(&mut open(&path).unwrap()), b"kept");
-    assert_eq!(builder().create_file(&path, &KEY).unwrap().size(), 0);
-    assert!(open(&folder.path("none")).is_err());
-    assert!(create(&folder.path("no/folder")).is_err());
+    folder.create().unwrap().write(b"kept", 0).unwrap();
+    let created = over().chunk_size(65_537).create_file(&path, &KEY);
+    assert_eq!(outcome(created), "ChunkSize");
+    let created = over().rng(failing(1)).create_file(&path, &KEY);
+    assert_eq!(outcome(created), "UnexpectedEof");
+    assert_eq!(outcome(folder.create()), "AlreadyExists");
+    assert_eq!(folder.text(), b"kept");
+    assert_eq!(folder.create_over().unwrap().size(), 0);
+    let opened = Raf::<Aegis256>::open_file(folder.path("none"), &KEY);
+    assert_eq!(outcome(opened), "NotFound");
+    let created = Raf::<Aegis256>::create_file(folder.path("no/folder"), &KEY);
+    assert_eq!(outcome(created), "NotFound");
 }
 
 /// What fails after a file was made removes it again, unless another program has it or gave it another name.
 #[test]
 fn refused_after_a_file_was_made() {
-    let folder = Folder::new("unmade");
-    let path = folder.path("file");
-    for truncate in [false, true] {
-        let builder = || RafBuilder::<Aegis256>::new().truncate(truncate);
-        // The journal that was set is not empty, or cannot be read, or syncing it fails.
-        let journals = disks((Vec::new(), vec![1]));
-        let refused = builder()
-            .journal(journals.1.clone())
-            .create_file(&path, &KEY);
-        assert!(matches!(refused, Err(Error::Journal)));
-        assert!(folder.names().is_empty());
-        let journals = disks(Default::default());
-        journals.1.log.borrow_mut().left = 0;
-        let refused = builder()
-            .journal(journals.1.clone())
-            .create_file(&path, &KEY);
-        assert!(matches!(refused, Err(Error::Io(_))));
-        assert!(folder.names().is_empty());
+    let folder = Folder::new();
+    let used = || Disks::of((Vec::new(), vec![1])).journal;
+    let unsynced = || {
+        let disks = Disks::new();
+        disks.leave(0);
+        disks.journal
+    };
+    for builder in [RafBuilder::<Aegis256>::new, over] {
+        for (journal, error) in [(used(), "Journal"), (unsynced(), "Other")] {
+            let created = builder().journal(journal).create_file(folder.file(), &KEY);
+            assert_eq!(outcome(created), error);
+            assert!(folder.names().is_empty());
+        }
     }
     // One that is there already is kept, and so is one that another program opens meanwhile.
-    fs::write(&path, b"").unwrap();
-    let journals = disks((Vec::new(), vec![1]));
-    let builder = || RafBuilder::<Aegis256>::new().truncate(true);
-    assert!(
-        builder()
-            .journal(journals.1)
-            .create_file(&path, &KEY)
-            .is_err()
-    );
+    fs::write(folder.file(), b"").unwrap();
+    let created = over().journal(used()).create_file(folder.file(), &KEY);
+    assert_eq!(outcome(created), "Journal");
     assert_eq!(folder.names(), ["file"]);
-    let at_sync = |call| {
-        if call == At::Sync {
-            fs::hard_link(folder.path("new"), folder.path("other")).unwrap();
-        }
+    let links = |at| match at {
+        At::Sync => Ok(fs::hard_link(folder.path("new"), folder.path("other"))?),
+        _ => Ok(()),
     };
-    let journal = Before(disks((Vec::new(), Vec::new())).1, at_sync);
-    let refused = builder()
-        .journal(journal)
-        .create_file(folder.path("new"), &KEY);
-    assert!(matches!(refused, Err(Error::Moved)));
+    let builder = over().journal(Before(Disks::new().journal, links));
+    let created = builder.create_file(folder.path("new"), &KEY);
+    assert_eq!(outcome(created), "Moved");
     assert_eq!(folder.names(), ["file", "new", "other"]);
-}
-
-/// A copy of a descriptor shares the lock of the other, and what has not locked it does not unlock it.
-#[test]
-fn copies_of_descriptors() {
-    let folder = Folder::new("copies");
-    let path = folder.path("file");
-    drop(create(&path).unwrap());
-    let mut options = fs::File::options();
-    let file = options.read(true).write(true).open(&path).unwrap();
-    let copy = || FileIo::new(file.try_clone().unwrap());
-    let over_copy = RafBuilder::<Aegis256>::new().open(copy(), &KEY).unwrap();
-    probe(&mut copy()).unwrap();
-    assert!(matches!(open(&path), Err(Error::Locked)));
-    drop(over_copy);
-    drop(open(&path).unwrap());
 }
 
 /// While another file has the name of the journal no commit is made, and the changes stay in memory.
 #[test]
 fn another_file_in_place_of_a_journal() {
-    let folder = Folder::new("another");
-    let path = folder.path("file");
-    let journal = folder.path("file.journal");
-    let mut file = create(&path).unwrap();
+    let folder = Folder::new();
+    let mut file = folder.create().unwrap();
     file.write(b"changed", 0).unwrap();
     for len in [1, 512, 600] {
-        fs::write(&journal, vec![7; len]).unwrap();
-        assert!(matches!(file.commit(), Err(Error::Journal)));
-        assert_eq!(fs::read(&journal).unwrap(), vec![7; len]);
+        fs::write(folder.journal(), vec![7; len]).unwrap();
+        assert_eq!(outcome(file.commit()), "Journal");
+        assert_eq!(fs::read(folder.journal()).unwrap(), vec![7; len]);
     }
-    fs::remove_file(&journal).unwrap();
+    fs::remove_file(folder.journal()).unwrap();
     file.commit().unwrap();
     drop(file);
-    assert_eq!(read(&mut open(&path).unwrap()), b"changed");
+    assert_eq!(folder.text(), b"changed");
 }
 
 /// Opening empties no journal that it has not read.
 #[test]
 fn a_file_that_appears_in_place_of_a_journal() {
-    let folder = Folder::new("appears");
-    let path = folder.path("file");
-    let journal = folder.path("file.journal");
-    drop(create(&path).unwrap());
-    let appears = |call| {
-        if call == At::Sync {
-            fs::write(&journal, [7; 40]).unwrap();
-        }
+    let folder = Folder::with(b"");
+    let appears = |at| match at {
+        At::Sync => Ok(fs::write(folder.journal(), [7; 40])?),
+        _ => Ok(()),
     };
-    let io = Before(FileIo::open(&path).unwrap(), appears);
+    let io = Before(FileIo::open(folder.file()).unwrap(), appears);
     let opened = RafBuilder::<Aegis256>::new().open(io, &KEY);
-    assert!(matches!(opened, Err(Error::Journal)));
-    assert_eq!(fs::read(&journal).unwrap(), [7; 40]);
+    assert_eq!(outcome(opened), "Journal");
+    assert_eq!(fs::read(folder.journal()).unwrap(), [7; 40]);
 }
 
-/// A journal of 20 bytes, and of 1,000 once it was read, which is not to be written.
-struct Replaced(u64);
-
-impl RafIo for Replaced {
-    fn read_at(&mut self, buf: &mut [u8], _: u64) -> io::Result<()> {
-        buf.fill(7);
-        self.0 = 1000;
-        Ok(())
-    }
-
-    fn write_at(&mut self, _: &[u8], _: u64) -> io::Result<()> {
-        panic!("a journal that was replaced is written")
-    }
-
-    fn get_size(&mut self) -> io::Result<u64> {
-        Ok(self.0)
-    }
-
-    fn set_size(&mut self, _: u64) -> io::Result<()> {
-        panic!("a journal that was replaced is cut off")
-    }
-}
-
-/// What was read of one journal does not decide on another that has taken its place.
+/// What was read of one journal does not decide on another that has taken its place, which is not changed.
 #[test]
 fn a_journal_that_is_replaced_as_it_is_read() {
-    let folder = Folder::new("replaced");
-    let path = folder.path("file");
-    drop(create(&path).unwrap());
-    let builder = RafBuilder::<Aegis256>::new().journal(Replaced(20));
-    assert!(matches!(
-        builder.open_file(&path, &KEY),
-        Err(Error::Journal)
-    ));
+    let folder = Folder::with(b"");
+    let disks = Disks::of((Vec::new(), vec![7; 20]));
+    let replaced = |at| {
+        if at == At::Read {
+            disks.journal.bytes.borrow_mut().resize(1000, 7);
+        }
+        Ok(())
+    };
+    let builder = RafBuilder::<Aegis256>::new();
+    let builder = builder.journal(Before(disks.journal.clone(), replaced));
+    assert_eq!(outcome(builder.open_file(folder.file(), &KEY)), "Journal");
+    assert_eq!(disks.calls(), 0);
 }
 
-/// What is shorter than the first sector is no file.
-#[test]
-fn a_probe_of_a_short_file() {
-    let folder = Folder::new("short");
-    let path = folder.path("file");
-    drop(create(&path).unwrap());
-    let probed = || probe(&mut FileIo::open(&path).unwrap());
-    assert_eq!(probed().unwrap().file_size, 512);
-    fs::File::options()
-        .write(true)
-        .open(&path)
-        .unwrap()
-        .set_len(511)
-        .unwrap();
-    assert!(matches!(probed(), Err(Error::Header)));
-}
-
+/// What is no file, or shorter than the first sector, is rejected and kept.
 #[test]
 fn files_that_are_none() {
-    let folder = Folder::new("none");
-    let path = folder.path("file");
+    let folder = Folder::with(b"");
+    let file = fs::read(folder.file()).unwrap();
+    let probed = || probe(&mut FileIo::open(folder.file()).unwrap());
+    assert_eq!(probed().unwrap().file_size, 512);
     let mut another_format = [0; 600];
     another_format[..9].copy_from_slice(b"AGP2\x21\0\x10\0\0");
-    for bytes in [&b""[..], b"AGP1", &[0; 600], &[65; 33], &another_format] {
-        fs::write(&path, bytes).unwrap();
-        assert!(matches!(open(&path), Err(Error::Header)));
-        let probed = probe(&mut FileIo::open(&path).unwrap());
-        assert!(matches!(probed, Err(Error::Header)));
-        assert_eq!(fs::read(&path).unwrap(), bytes);
+    for bytes in [b"", &file[..511], b"AGP1", &[0; 600], &another_format] {
+        fs::write(folder.file(), bytes).unwrap();
+        assert_eq!(outcome(folder.open()), "Header");
+        assert_eq!(outcome(probed()), "Header");
+        assert_eq!(fs::read(folder.file()).unwrap(), bytes);
     }
 }
 
 /// Closing commits, as dropping does, and returns the error.
 #[test]
 fn closing() {
-    let folder = Folder::new("closing");
-    let (path, other) = (folder.path("file"), folder.path("other"));
-    let mut file = create(&path).unwrap();
+    let folder = Folder::new();
+    let mut file = folder.create().unwrap();
     file.write(b"kept", 0).unwrap();
     file.close().unwrap();
-    let mut file = open(&path).unwrap();
-    assert_eq!(read(&mut file), b"kept");
+    assert_eq!(folder.text(), b"kept");
+    let mut file = folder.open().unwrap();
     file.write(b"lost", 0).unwrap();
-    fs::rename(&path, &other).unwrap();
-    assert!(matches!(file.close(), Err(Error::Moved)));
-    assert_eq!(read(&mut open(&other).unwrap()), b"kept");
+    fs::rename(folder.file(), folder.path("other")).unwrap();
+    assert_eq!(outcome(file.close()), "Moved");
+    fs::rename(folder.path("other"), folder.file()).unwrap();
+    assert_eq!(folder.text(), b"kept");
 }
 
 #[test]
 fn cursors() {
-    let folder = Folder::new("cursors");
-    let path = folder.path("file");
-    let mut file = create(&path).unwrap();
+    let folder = Folder::new();
+    let mut file = folder.create().unwrap();
     let mut cursor = file.cursor();
-    cursor.write_all(b"one two ").unwrap();
-    cursor.write_all(b"thr").unwrap();
-    cursor.write_all(b"ee").unwrap();
+    for part in [&b"one two "[..], b"thr", b"ee"] {
+        cursor.write_all(part).unwrap();
+    }
     cursor.seek(SeekFrom::End(-5)).unwrap();
     let mut word = String::new();
     cursor.read_to_string(&mut word).unwrap();
     assert_eq!(word, "three");
     assert!(cursor.seek(SeekFrom::Current(-14)).is_err());
     assert_eq!(cursor.seek(SeekFrom::Current(-13)).unwrap(), 0);
-    assert_eq!(fs::metadata(&path).unwrap().len(), 512);
+    let length = || fs::metadata(folder.file()).unwrap().len();
+    assert_eq!(length(), 512);
     cursor.flush().unwrap();
-    assert_eq!(fs::metadata(&path).unwrap().len(), 4096 + 4096);
+    assert_eq!(length(), 4096 + 4096);
     cursor.seek(SeekFrom::Start(20)).unwrap();
     assert_eq!(cursor.read(&mut [0; 9]).unwrap(), 0);
     // As with a file of the system, no bytes that are written past the end change nothing.
@@ -529,26 +344,22 @@ fn cursors() {
     cursor.seek(SeekFrom::Start(u64::MAX)).unwrap();
     assert_eq!(cursor.write(b"").unwrap(), 0);
     drop(file);
-    assert_eq!(read(&mut open(&path).unwrap()), b"one two three");
+    assert_eq!(folder.text(), b"one two three");
 }
 
 /// Whoever opens a file that has only been made does not lock it, so that whoever has made it can.
 #[test]
 fn a_file_that_is_being_created() {
-    let disks = disks(Default::default());
-    let builder = RafBuilder::<Aegis256>::new().journal(disks.1.clone());
-    assert!(matches!(
-        builder.open(disks.0.clone(), &KEY),
-        Err(Error::Header)
-    ));
-    assert_eq!(disks.0.log.borrow().locks, 0);
+    let disks = Disks::new();
+    assert_eq!(outcome(disks.open()), "Header");
+    assert_eq!(disks.log().locks, 0);
 }
 
 #[test]
 fn a_journal_beside_no_file() {
-    let folder = Folder::new("beside");
+    let folder = Folder::new();
     for name in ["text.journal", "text.wal", "text"] {
-        let mut disk = disks(Default::default()).0;
+        let mut disk = Disks::new().file;
         disk.journal = Some(folder.path(name));
         let mut file = RafBuilder::<Aegis256>::new().create(disk, &KEY).unwrap();
         file.write(b"text", 0).unwrap();
@@ -559,14 +370,9 @@ fn a_journal_beside_no_file() {
 
 #[test]
 fn files_go_to_other_threads() {
-    fn sent<T: Send>(value: T) -> T {
-        value
-    }
-    let folder = Folder::new("threads");
-    let path = folder.path("file");
-    let mut file = sent(create(&path).unwrap());
-    std::thread::spawn(move || file.write(b"there", 0).unwrap())
-        .join()
-        .unwrap();
-    assert_eq!(read(&mut open(&path).unwrap()), b"there");
+    let folder = Folder::new();
+    let mut file = folder.create().unwrap();
+    let thread = std::thread::spawn(move || file.write(b"there", 0));
+    thread.join().unwrap().unwrap();
+    assert_eq!(folder.text(), b"there");
 }

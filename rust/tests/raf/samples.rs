@@ -1,6 +1,6 @@
 //! Programs as they are written for the crate `aegis`: they compile over this one with no other change than its name.
 
-use crate::paths::Folder;
+use crate::support::Folder;
 
 #[path = "../programs/with_raf.rs"]
 mod with_raf;
@@ -9,16 +9,13 @@ mod with_raf_core;
 
 #[test]
 fn files_and_keys() {
-    let folder = Folder::new("samples");
-    let [file, other] = ["data.raf", "other.raf"].map(|name| folder.path(name));
-    with_raf::a_file_of_a_path(&file);
-    with_raf_core::a_source_of_random_bytes(&other);
+    let folder = Folder::new();
+    with_raf::a_file_of_a_path(&folder.file());
+    with_raf_core::a_source_of_random_bytes(&folder.path("other"));
     with_raf_core::keys();
-    let found = with_raf_core::a_probe(&other);
-    assert_eq!(
-        found,
-        "algorithm: Aegis128L, chunk_size: 4096, file_size: 8240"
-    );
+    let found = with_raf_core::a_probe(&folder.path("other"));
+    let expected = "algorithm: Aegis128L, chunk_size: 4096, file_size: 8240";
+    assert_eq!(found, expected);
 }
 
 #[test]

@@ -1,16 +1,39 @@
-//! Shared by the tests: disks that a crash tears, and numbers that look random.
+//! Shared by the tests: files on disks in memory that fail and crash, files in folders, and what calls return.
 
 pub use crate::random::Random;
-use hunkravy::raf::{Error, RafIo, RafRng, Result};
-use std::cell::RefCell;
-use std::io;
+use hunkravy::raf::*;
+use std::cell::{RefCell, RefMut};
 use std::path::PathBuf;
 use std::rc::Rc;
+use std::sync::atomic::{AtomicUsize, Ordering::Relaxed};
+use std::{fs, io};
 
 pub const KEY: [u8; 32] = [7; 32];
 
 /// How many calls a commit makes until its journal is certain, before it writes anything to the file.
 pub const JOURNAL_CALLS: usize = 4;
+
+/// Returns "Ok", or the error without its text.
+pub fn outcome<T>(result: Result<T>) -> String {
+    match result {
+        Ok(_) => "Ok".to_owned(),
+        Err(Error::Io(error)) => format!("{:?}", error.kind()),
+        Err(error) => format!("{error:?}"),
+    }
+}
+
+/// Returns the contents, or an error, after which the buffer has none of them.
+pub fn read<I: RafIo, R: RafRng, J: RafIo>(file: &mut Raf<Aegis256, I, R, J>) -> Result<Vec<u8>> {
+    let mut text = vec![9; file.size() as usize];
+    let count = file.read(&mut text, 0);
+    assert!(count.is_ok() || text.iter().all(|byte| *byte == 0));
+    count.map(|count| text[..count].to_vec())
+}
+
+/// Returns the contents.
+pub fn text_of<I: RafIo, R: RafRng, J: RafIo>(file: &mut Raf<Aegis256, I, R, J>) -> Vec<u8> {
+    read(file).unwrap()
+}
 
 /// Returns what the journals of a file begin with.
 pub fn front_of(file: &[u8]) -> [u8; 512] {
@@ -27,6 +50,8 @@ pub fn front_of_another() -> [u8; 512] {
     front_of(&file)
 }
 
+// ---- Sources of random bytes
+
 impl RafRng for Random {
     fn fill(&mut self, buf: &mut [u8]) -> Result<()> {
         buf.fill_with(|| (self.next() >> 32) as u8);
@@ -34,20 +59,36 @@ impl RafRng for Random {
     }
 }
 
-/// Random bytes, of which so many calls still succeed. The one after them fills half of its bytes.
-pub struct FailingRandom(pub Random, pub usize);
+/// Random bytes, which a function may change or refuse. It is told how many calls were made before.
+pub struct Source<F>(Random, usize, F);
 
-impl RafRng for FailingRandom {
-    fn fill(&mut self, buf: &mut [u8]) -> Result<()> {
-        let Some(left) = self.1.checked_sub(1) else {
-            let half = buf.len() / 2;
-            self.0.fill(&mut buf[..half])?;
-            return Err(Error::Io(io::ErrorKind::UnexpectedEof.into()));
-        };
-        self.1 = left;
-        self.0.fill(buf)
+impl<F: FnMut(usize, &mut [u8]) -> Result<()>> Source<F> {
+    pub fn new(seed: u64, then: F) -> Self {
+        Source(Random(seed), 0, then)
     }
 }
+
+impl<F: FnMut(usize, &mut [u8]) -> Result<()>> RafRng for Source<F> {
+    fn fill(&mut self, buf: &mut [u8]) -> Result<()> {
+        self.0.fill(buf)?;
+        self.1 += 1;
+        (self.2)(self.1 - 1, buf)
+    }
+}
+
+/// A source whose first calls succeed, so many of them. The one after them fills half of its bytes.
+pub fn failing(calls: usize) -> impl RafRng {
+    Source::new(5, move |call, buf| {
+        let half = buf.len() / 2;
+        if call == calls {
+            buf[half..].fill(0);
+            return Err(io::Error::from(io::ErrorKind::UnexpectedEof).into());
+        }
+        Ok(())
+    })
+}
+
+// ---- Disks
 
 /// A call of a disk that changes something.
 #[derive(Clone, Debug, PartialEq, Eq)]
@@ -57,20 +98,21 @@ pub enum Call {
     Sync,
 }
 
-/// What the disks of a file and of its journal have in common: their calls, in order, how many of them and how many reads
-/// still succeed, and how often one was locked.
-pub struct Log {
-    pub calls: Vec<(Part, Call)>,
-    pub left: usize,
-    pub reads_left: usize,
-    pub locks: usize,
-}
-
 /// The file, or its journal.
 #[derive(Clone, Copy, Debug, PartialEq, Eq)]
 pub enum Part {
     File,
     Journal,
+}
+
+/// What the disks of a file and of its journal have in common: their calls, in order, how many of them and how many reads
+/// still succeed, how often one was locked, and how many sources of random bytes were made.
+pub struct Log {
+    pub calls: Vec<(Part, Call)>,
+    pub left: usize,
+    pub reads_left: usize,
+    pub locks: usize,
+    pub seed: u64,
 }
 
 /// A disk in memory, whose bytes outlive the file over it.
@@ -81,26 +123,6 @@ pub struct Disk {
     /// Where the journal is, if there is none on a disk.
     pub journal: Option<PathBuf>,
     part: Part,
-}
-
-/// The bytes of a file and of its journal.
-pub type Bytes = (Vec<u8>, Vec<u8>);
-
-/// Returns the disks of a file and of its journal.
-pub fn disks((file, journal): Bytes) -> (Disk, Disk) {
-    let log = Rc::new(RefCell::new(Log {
-        calls: Vec::new(),
-        left: usize::MAX,
-        reads_left: usize::MAX,
-        locks: 0,
-    }));
-    let disk = |bytes, part| Disk {
-        bytes: Rc::new(RefCell::new(bytes)),
-        log: log.clone(),
-        journal: None,
-        part,
-    };
-    (disk(file, Part::File), disk(journal, Part::Journal))
 }
 
 impl Disk {
@@ -130,12 +152,8 @@ impl RafIo for Disk {
     /// If it fails, half of the bytes are written.
     fn write_at(&mut self, data: &[u8], offset: u64) -> io::Result<()> {
         let done = self.log(Call::Write(offset, data.to_vec()));
-        let written = if done.is_ok() {
-            data
-        } else {
-            &data[..data.len() / 2]
-        };
-        put(&mut self.bytes.borrow_mut(), offset, written);
+        let count = data.len() / if done.is_ok() { 1 } else { 2 };
+        put(&mut self.bytes.borrow_mut(), offset, &data[..count]);
         done
     }
 
@@ -163,37 +181,166 @@ impl RafIo for Disk {
     }
 }
 
+pub type File = Raf<Aegis256, Disk, Random, Disk>;
+
+/// The bytes of a file and of its journal.
+pub type Bytes = (Vec<u8>, Vec<u8>);
+
+/// The disks of a file and of its journal.
+#[derive(Clone)]
+pub struct Disks {
+    pub file: Disk,
+    pub journal: Disk,
+}
+
+impl Disks {
+    pub fn new() -> Self {
+        Self::of(Bytes::default())
+    }
+
+    pub fn of((file, journal): Bytes) -> Self {
+        let log = Rc::new(RefCell::new(Log {
+            calls: Vec::new(),
+            left: usize::MAX,
+            reads_left: usize::MAX,
+            locks: 0,
+            seed: 5,
+        }));
+        let disk = |bytes, part| Disk {
+            bytes: Rc::new(RefCell::new(bytes)),
+            log: log.clone(),
+            journal: None,
+            part,
+        };
+        Disks {
+            file: disk(file, Part::File),
+            journal: disk(journal, Part::Journal),
+        }
+    }
+
+    /// The disks of a new file with these contents.
+    pub fn with(text: &[u8]) -> Self {
+        let disks = Self::new();
+        disks.create().write(text, 0).unwrap();
+        disks
+    }
+
+    pub fn log(&self) -> RefMut<'_, Log> {
+        self.file.log.borrow_mut()
+    }
+
+    /// The number of calls so far.
+    pub fn calls(&self) -> usize {
+        self.log().calls.len()
+    }
+
+    /// Lets so many calls succeed.
+    pub fn leave(&self, calls: usize) {
+        self.log().left = calls;
+    }
+
+    pub fn bytes(&self) -> Bytes {
+        let bytes = |disk: &Disk| disk.bytes.borrow().clone();
+        (bytes(&self.file), bytes(&self.journal))
+    }
+
+    /// A builder of files in pages of 256 bytes, with another source of random bytes each time.
+    pub fn builder(&self) -> RafBuilder<Aegis256, Random, Disk> {
+        self.log().seed += 1;
+        let builder = RafBuilder::with_rng(Random(self.log().seed)).chunk_size(256);
+        builder.journal(self.journal.clone())
+    }
+
+    /// Creates a file that no write commits.
+    pub fn create(&self) -> File {
+        let builder = self.builder().buffer_limit(usize::MAX);
+        builder.create(self.file.clone(), &KEY).unwrap()
+    }
+
+    pub fn open(&self) -> Result<File> {
+        self.builder().open(self.file.clone(), &KEY)
+    }
+
+    /// Returns the contents that an opening would find. It changes nothing.
+    pub fn text(&self) -> Vec<u8> {
+        let copy = Self::of(self.bytes());
+        text_of(&mut copy.open().unwrap())
+    }
+}
+
+/// Returns the disks after a commit of these contents that is cut short: so many of its calls succeed.
+pub fn cut_short(bytes: &Bytes, text: &[u8], offset: u64, calls: usize) -> Disks {
+    let disks = Disks::of(bytes.clone());
+    let mut file = disks.open().unwrap();
+    file.write(text, offset).unwrap();
+    disks.leave(calls);
+    assert!(file.commit().is_err());
+    disks.leave(usize::MAX);
+    disks
+}
+
+/// What a storage is asked for, with the end of what is written or reserved, or the new size.
+#[derive(Clone, Copy, PartialEq)]
+pub enum At {
+    Read,
+    Write(u64),
+    Reserve(u64),
+    Resize(u64),
+    Sync,
+    Lock,
+}
+
+/// A storage before whose calls a function is called. If that returns an error, the call is not made.
+#[derive(Clone)]
+pub struct Before<I, F>(pub I, pub F);
+
+impl<I: RafIo, F: FnMut(At) -> Result<()>> RafIo for Before<I, F> {
+    fn read_at(&mut self, buf: &mut [u8], offset: u64) -> io::Result<()> {
+        (self.1)(At::Read)?;
+        self.0.read_at(buf, offset)
+    }
+
+    fn write_at(&mut self, data: &[u8], offset: u64) -> io::Result<()> {
+        (self.1)(At::Write(offset + data.len() as u64))?;
+        self.0.write_at(data, offset)
+    }
+
+    fn get_size(&mut self) -> io::Result<u64> {
+        self.0.get_size()
+    }
+
+    fn set_size(&mut self, size: u64) -> io::Result<()> {
+        (self.1)(At::Resize(size))?;
+        self.0.set_size(size)
+    }
+
+    fn reserve(&mut self, from: u64, end: u64) -> io::Result<()> {
+        (self.1)(At::Reserve(end))?;
+        self.0.reserve(from, end)
+    }
+
+    fn sync(&mut self) -> io::Result<()> {
+        (self.1)(At::Sync)?;
+        self.0.sync()
+    }
+
+    fn lock(&mut self) -> Result<()> {
+        (self.1)(At::Lock)?;
+        self.0.lock()
+    }
+
+    fn journal_path(&self) -> Option<PathBuf> {
+        self.0.journal_path()
+    }
+}
+
+// ---- Crashes
+
 /// Writes bytes at a place, after zeros in a gap.
 pub fn put(bytes: &mut Vec<u8>, offset: u64, data: &[u8]) {
     let (start, end) = (offset as usize, offset as usize + data.len());
     bytes.resize(bytes.len().max(end), 0);
     bytes[start..end].copy_from_slice(data);
-}
-
-/// Returns what a crash may leave of bytes that were synced, and then changed by these calls.
-fn torn(mut bytes: Vec<u8>, calls: &[&Call], random: &mut Random) -> Vec<u8> {
-    let mut pending: Vec<&Call> = Vec::new();
-    for call in calls {
-        if **call != Call::Sync {
-            pending.push(call);
-            continue;
-        }
-        for change in pending.drain(..) {
-            apply(&mut bytes, change);
-        }
-    }
-    let mut sizes = vec![bytes.len()];
-    let mut whole = bytes.clone();
-    for change in &pending {
-        apply(&mut whole, change);
-        sizes.push(whole.len());
-        if let Call::Write(offset, data) = change {
-            tear(&mut bytes, *offset, data, random);
-        }
-    }
-    let size = sizes[random.below(sizes.len() as u64) as usize];
-    bytes.resize(size, 0);
-    bytes
 }
 
 /// Makes a change.
@@ -205,24 +352,37 @@ fn apply(bytes: &mut Vec<u8>, change: &Call) {
     }
 }
 
+/// Returns what a crash may leave of bytes that were synced, and then changed by these calls.
+fn torn(mut bytes: Vec<u8>, calls: &[&Call], random: &mut Random) -> Vec<u8> {
+    let synced = calls.iter().rposition(|call| **call == Call::Sync);
+    let (certain, pending) = calls.split_at(synced.map_or(0, |at| at + 1));
+    certain.iter().for_each(|call| apply(&mut bytes, call));
+    let mut sizes = vec![bytes.len()];
+    let mut whole = bytes.clone();
+    for change in pending {
+        apply(&mut whole, change);
+        sizes.push(whole.len());
+        if let Call::Write(offset, data) = change {
+            tear(&mut bytes, *offset, data, random);
+        }
+    }
+    bytes.resize(sizes[random.below(sizes.len() as u64) as usize], 0);
+    bytes
+}
+
 /// Leaves any bytes where a write was to be: those of before, those of after, garbage, or what another file's journal
 /// begins with, in pieces of some length.
 pub fn tear(bytes: &mut Vec<u8>, offset: u64, data: &[u8], random: &mut Random) {
-    let piece = [1, 16, 100, 512, 4096, usize::MAX][random.below(6) as usize];
+    let piece = [1, 16, 100, 512, 4096, data.len()][random.below(6) as usize].max(1);
     let kinds = 1 + random.below(4);
     let first = random.below(4);
-    let pieces = data.len().div_ceil(piece.min(data.len().max(1)));
     // A tail that is torn, as well as pieces here and there.
-    let cut = random.below(pieces as u64 + 1) as usize;
+    let cut = random.below(data.len().div_ceil(piece) as u64 + 1) as usize;
     let is_tail = random.below(2) == 0;
-    for (number, part) in data.chunks(piece.min(data.len().max(1))).enumerate() {
-        let place = offset + (number * piece.min(data.len())) as u64;
-        let kind = if is_tail && number < cut {
-            1
-        } else {
-            (first + random.below(kinds)) % 4
-        };
-        match kind {
+    for (number, part) in data.chunks(piece).enumerate() {
+        let place = offset + (number * piece) as u64;
+        let kind = (first + random.below(kinds)) % 4;
+        match if is_tail && number < cut { 1 } else { kind } {
             0 => (),
             1 => put(bytes, place, part),
             2 => put(bytes, place, &random.bytes(part.len())),
@@ -241,64 +401,101 @@ fn bytes_of_another(place: u64, count: usize, random: &mut Random) -> Vec<u8> {
     bytes
 }
 
+/// Returns the calls of one of the two.
+fn of_part(calls: &[(Part, Call)], part: Part) -> Vec<&Call> {
+    let own = calls.iter().filter(|call| call.0 == part);
+    own.map(|call| &call.1).collect()
+}
+
 /// Returns a file and its journal after these calls, if there is no crash.
-pub fn changed(before: &Bytes, calls: &[(Part, Call)]) -> Bytes {
-    let mut after = before.clone();
-    for (part, call) in calls {
-        match part {
-            Part::File => apply(&mut after.0, call),
-            Part::Journal => apply(&mut after.1, call),
-        }
-    }
-    after
+pub fn changed((file, journal): &Bytes, calls: &[(Part, Call)]) -> Bytes {
+    let after = |bytes: &Vec<u8>, part| {
+        let mut bytes = bytes.clone();
+        let calls = of_part(calls, part);
+        calls.iter().for_each(|call| apply(&mut bytes, call));
+        bytes
+    };
+    (after(file, Part::File), after(journal, Part::Journal))
 }
 
 /// Returns what a crash after these calls may leave of a file and its journal, all of whose bytes were synced before.
-pub fn crashed(before: &Bytes, calls: &[(Part, Call)], random: &mut Random) -> Bytes {
-    let of = |wanted| -> Vec<&Call> {
-        let of_part = calls.iter().filter(|(part, _)| *part == wanted);
-        of_part.map(|(_, call)| call).collect()
-    };
+pub fn crashed((file, journal): &Bytes, calls: &[(Part, Call)], random: &mut Random) -> Bytes {
     (
-        torn(before.0.clone(), &of(Part::File), random),
-        torn(before.1.clone(), &of(Part::Journal), random),
+        torn(file.clone(), &of_part(calls, Part::File), random),
+        torn(journal.clone(), &of_part(calls, Part::Journal), random),
     )
 }
 
-/// What a storage is asked for.
-#[derive(Clone, Copy, PartialEq)]
-pub enum At {
-    Read,
-    Sync,
+// ---- Files in folders
+
+/// A folder that is removed when it is dropped. Its files are those that tests make, and the file of this format in it is `file`.
+pub struct Folder(PathBuf);
+
+impl Folder {
+    pub fn new() -> Self {
+        static COUNT: AtomicUsize = AtomicUsize::new(0);
+        let name = format!("{}-{}", std::process::id(), COUNT.fetch_add(1, Relaxed));
+        let folder = std::env::temp_dir().join(format!("hunkravy-{name}"));
+        let _ = fs::remove_dir_all(&folder);
+        fs::create_dir(&folder).unwrap();
+        Folder(folder)
+    }
+
+    /// A folder with a file that has these contents.
+    pub fn with(text: &[u8]) -> Self {
+        let folder = Self::new();
+        folder.create().unwrap().write(text, 0).unwrap();
+        folder
+    }
+
+    pub fn path(&self, name: &str) -> PathBuf {
+        self.0.join(name)
+    }
+
+    pub fn file(&self) -> PathBuf {
+        self.path("file")
+    }
+
+    pub fn journal(&self) -> PathBuf {
+        self.path("file.journal")
+    }
+
+    /// The names of the files in it.
+    pub fn names(&self) -> Vec<String> {
+        let files = fs::read_dir(&self.0).unwrap();
+        let name = |file: io::Result<fs::DirEntry>| file.unwrap().file_name();
+        let mut names: Vec<_> = files
+            .map(|file| name(file).into_string().unwrap())
+            .collect();
+        names.sort();
+        names
+    }
+
+    pub fn create(&self) -> Result<Raf<Aegis256>> {
+        Raf::create_file(self.file(), &KEY)
+    }
+
+    /// Creates the file, in place of one that may be there.
+    pub fn create_over(&self) -> Result<Raf<Aegis256>> {
+        over().create_file(self.file(), &KEY)
+    }
+
+    pub fn open(&self) -> Result<Raf<Aegis256>> {
+        Raf::open_file(self.file(), &KEY)
+    }
+
+    pub fn text(&self) -> Vec<u8> {
+        text_of(&mut self.open().unwrap())
+    }
 }
 
-/// A storage before whose reads and syncs a test does something.
-pub struct Before<I, F>(pub I, pub F);
-
-impl<I: RafIo, F: FnMut(At)> RafIo for Before<I, F> {
-    fn read_at(&mut self, buf: &mut [u8], offset: u64) -> io::Result<()> {
-        (self.1)(At::Read);
-        self.0.read_at(buf, offset)
+impl Drop for Folder {
+    fn drop(&mut self) {
+        let _ = fs::remove_dir_all(&self.0);
     }
+}
 
-    fn write_at(&mut self, data: &[u8], offset: u64) -> io::Result<()> {
-        self.0.write_at(data, offset)
-    }
-
-    fn get_size(&mut self) -> io::Result<u64> {
-        self.0.get_size()
-    }
-
-    fn set_size(&mut self, size: u64) -> io::Result<()> {
-        self.0.set_size(size)
-    }
-
-    fn sync(&mut self) -> io::Result<()> {
-        (self.1)(At::Sync);
-        self.0.sync()
-    }
-
-    fn journal_path(&self) -> Option<PathBuf> {
-        self.0.journal_path()
-    }
+/// A builder that creates files in place of others.
+pub fn over() -> RafBuilder<Aegis256> {
+    RafBuilder::new().truncate(true)
 }
