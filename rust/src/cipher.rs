@@ -1,6 +1,7 @@
 //! Ciphers: a key and a nonce, for one message or one keystream.
 
 use crate::error::{accepted, done};
+use crate::exports;
 use crate::run::Run;
 use crate::variant::assert_tag_bytes;
 use crate::{Decryptor, Encryptor, Error, Tag, Variant};
@@ -96,7 +97,14 @@ impl<V: Variant, const TAG_BYTES: usize> Cipher<V, TAG_BYTES> {
     pub fn encrypt_in_place(self, mc: &mut [u8], ad: &[u8]) -> Tag<TAG_BYTES> {
         let mut tag = [0; TAG_BYTES];
         let (nonce, key) = (self.nonce.as_ref(), self.key.as_ref());
-        done(V::EXPORTS.encrypt_in_place(mc, ad, nonce, key, &mut tag));
+        done(exports::encrypt_in_place(
+            V::NUMBER,
+            mc,
+            ad,
+            nonce,
+            key,
+            &mut tag,
+        ));
         tag
     }
 
@@ -146,7 +154,14 @@ impl<V: Variant, const TAG_BYTES: usize> Cipher<V, TAG_BYTES> {
         ad: &[u8],
     ) -> Result<(), Error> {
         let (nonce, key) = (self.nonce.as_ref(), self.key.as_ref());
-        accepted(V::EXPORTS.decrypt_in_place(mc, ad, nonce, key, tag))
+        accepted(exports::decrypt_in_place(
+            V::NUMBER,
+            mc,
+            ad,
+            nonce,
+            key,
+            tag,
+        ))
     }
 
     /// Fills `out` with the beginning of the keystream. `TAG_BYTES` has no effect on it.
@@ -161,7 +176,8 @@ impl<V: Variant, const TAG_BYTES: usize> Cipher<V, TAG_BYTES> {
     /// assert_eq!(keystream, zeros);
     /// ```
     pub fn stream(self, out: &mut [u8]) {
-        done(V::EXPORTS.stream(out, self.nonce.as_ref(), self.key.as_ref()));
+        let (nonce, key) = (self.nonce.as_ref(), self.key.as_ref());
+        done(exports::stream(V::NUMBER, out, nonce, key));
     }
 
     /// Returns a message xored with the keystream from its beginning. There is no tag, so changes are not detected.
@@ -192,7 +208,8 @@ impl<V: Variant, const TAG_BYTES: usize> Cipher<V, TAG_BYTES> {
     /// assert_eq!(&buffer, b"a message");
     /// ```
     pub fn stream_xor_in_place(self, mc: &mut [u8]) {
-        done(V::EXPORTS.stream_xor_in_place(mc, self.nonce.as_ref(), self.key.as_ref()));
+        let (nonce, key) = (self.nonce.as_ref(), self.key.as_ref());
+        done(exports::stream_xor_in_place(V::NUMBER, mc, nonce, key));
     }
 
     /// Begins to encrypt a message in chunks.

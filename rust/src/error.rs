@@ -44,7 +44,7 @@ impl core::error::Error for Error {}
 /// Returns an error if the tag was wrong. Panics as [`done`] does.
 #[track_caller]
 pub(crate) fn accepted(answer: Answer) -> Result<(), Error> {
-    if answer == Err(Refusal::InvalidTag) {
+    if answer == Err(Refusal::INVALID_TAG) {
         return Err(Error::InvalidTag);
     }
     done(answer);
@@ -56,8 +56,8 @@ pub(crate) fn accepted(answer: Answer) -> Result<(), Error> {
 pub(crate) fn done(answer: Answer) {
     match answer {
         Ok(()) => (),
-        Err(Refusal::MessageTooLong) => panic!("the message is longer than 2^61 - 1 bytes"),
-        Err(Refusal::DataTooLong) => panic!("the associated data are longer than 2^61 - 1 bytes"),
+        Err(Refusal::MESSAGE_TOO_LONG) => panic!("the message is longer than 2^61 - 1 bytes"),
+        Err(Refusal::DATA_TOO_LONG) => panic!("the associated data are longer than 2^61 - 1 bytes"),
         Err(refusal) => unreachable!("the library refused a call of this crate: {refusal:?}"),
     }
 }

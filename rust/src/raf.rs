@@ -70,7 +70,6 @@ pub use rng::OsRng;
 use rng::checked_nonce;
 pub use rng::{DefaultRng, RafRng};
 
-use crate::exports::JOURNAL_NONCE_BYTES;
 use crate::memory::{with_room, zeros};
 use crate::wipe::wipe;
 use alloc::vec::Vec;
@@ -96,7 +95,7 @@ use system::Process;
 /// ```
 #[must_use]
 pub const fn default_chunk_size<A: Algorithm>() -> u32 {
-    (4096 - layout::TAG_BYTES - A::EXPORTS.key_bytes) as u32
+    (4096 - layout::TAG_BYTES - A::KEY_BYTES) as u32
 }
 
 /// The most bytes of contents: 2^60.
@@ -384,7 +383,7 @@ impl<A: Algorithm, I: RafIo, R: RafRng, J: RafIo> Raf<A, I, R, J> {
 
     /// Begins the next journal.
     fn journal_seal(&mut self) -> Result<JournalSeal> {
-        let mut nonce = [0; JOURNAL_NONCE_BYTES];
+        let mut nonce = [0; journal::NONCE_BYTES];
         self.rng.fill(&mut nonce)?;
         Ok(self.layout.journal(&nonce))
     }
@@ -534,8 +533,8 @@ impl<A: Algorithm, I: RafIo, R: RafRng, J: RafIo> fmt::Debug for Raf<A, I, R, J>
 #[cfg(test)]
 mod tests {
     use super::layout::Layout;
+    use super::layout::PageHeader;
     use super::{Aegis256, Error, MAX_SIZE, NoJournal, RafBuilder, RafIo, RafRng, Result};
-    use crate::exports::PageHeader;
     use alloc::vec::Vec;
     use std::io::{self, ErrorKind};
 

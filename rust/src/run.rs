@@ -1,11 +1,11 @@
 //! A message or a MAC between its first chunk and its tag.
 
 use crate::error::{accepted, done};
-use crate::exports::State;
+use crate::exports::{self, State};
 use crate::{Error, MAX_AEAD_BYTES, Variant};
 use core::marker::PhantomData;
 
-/// The library's state of a message or of a MAC. It is overwritten when it is dropped.
+/// The library's state of a message or of a MAC.
 pub(crate) struct Run<V: Variant> {
     state: State,
     variant: PhantomData<V>,
@@ -23,7 +23,12 @@ impl<V: Variant> Run<V> {
     #[track_caller]
     pub fn of_mac(key: &V::Key, nonce: &V::Nonce) -> Self {
         let mut run = Self::ended();
-        done(V::EXPORTS.mac_init(&mut run.state, nonce.as_ref(), key.as_ref()));
+        done(exports::mac_init(
+            V::NUMBER,
+            &mut run.state,
+            nonce.as_ref(),
+            key.as_ref(),
+        ));
         run
     }
 
@@ -31,55 +36,64 @@ impl<V: Variant> Run<V> {
     #[track_caller]
     pub fn new(key: &V::Key, nonce: &V::Nonce, ad: &[u8]) -> Self {
         let mut run = Self::ended();
-        done(V::EXPORTS.state_init(&mut run.state, ad, nonce.as_ref(), key.as_ref()));
+        done(exports::state_init(
+            V::NUMBER,
+            &mut run.state,
+            ad,
+            nonce.as_ref(),
+            key.as_ref(),
+        ));
         run
     }
 
     /// How many more bytes the message may have.
     pub fn remaining(&self) -> u64 {
-        MAX_AEAD_BYTES - self.state.message_bytes()
+        MAX_AEAD_BYTES - self.state.message_bytes
     }
 
     /// Turns the next bytes of the message into those of the ciphertext.
     #[track_caller]
     pub fn seal(&mut self, chunk: &mut [u8]) {
-        done(self.state.encrypt_in_place(chunk));
+        done(exports::state_encrypt_in_place(&mut self.state, chunk));
     }
 
     /// The tag of the message that was sealed.
     pub fn tag<const TAG_BYTES: usize>(mut self) -> [u8; TAG_BYTES] {
         let mut tag = [0; TAG_BYTES];
-        done(self.state.encrypt_final(&mut tag));
+        done(exports::state_encrypt_final(&mut self.state, &mut tag));
         tag
     }
 
     /// Decrypts the next bytes of the ciphertext. They are not verified.
     #[track_caller]
     pub fn open_unverified(&mut self, chunk: &mut [u8]) {
-        done(self.state.decrypt_in_place_unverified(chunk));
+        done(exports::state_decrypt_in_place_unverified(
+            &mut self.state,
+            chunk,
+        ));
     }
 
     /// Returns an error if this is not the tag of the message that was opened. The caller then erases the message.
     pub fn check_tag(&mut self, tag: &[u8]) -> Result<(), Error> {
-        accepted(self.state.decrypt_final(&mut [], tag))
+        accepted(exports::state_decrypt_final(&mut self.state, &mut [], tag))
     }
 
     /// Takes in the next bytes of the input of a MAC.
     #[track_caller]
     pub fn absorb(&mut self, input: &[u8]) {
-        done(self.state.mac_update(input));
+        done(exports::mac_update(&mut self.state, input));
     }
 
     /// The MAC of the input.
     pub fn mac<const TAG_BYTES: usize>(&self) -> [u8; TAG_BYTES] {
         let mut mac = [0; TAG_BYTES];
-        done(self.state.mac_final(&mut mac));
+        done(exports::mac_final(&self.state, &mut mac));
         mac
     }
 
     /// Returns an error if this is not the MAC of the input.
     pub fn check_mac(&self, expected: &[u8]) -> Result<(), Error> {
-        accepted(self.state.mac_final_verify(expected))
+        accepted(exports::mac_final_verify(&self.state, expected))
     }
 }
 
@@ -92,39 +106,18 @@ impl<V: Variant> Clone for Run<V> {
     }
 }
 
-impl<V: Variant> Drop for Run<V> {
-    fn drop(&mut self) {
-        self.state.wipe();
-    }
-}
-
 /// The limit on lengths, which is more than any buffer has.
 #[cfg(test)]
 mod tests {
     use super::Run;
     use crate::aegis256x2::{Decryptor, Encryptor, Error};
     use crate::variants::Aegis256X2;
-    use crate::wipe::tests::left_of;
     use crate::{MAX_AEAD_BYTES, Mac};
-
-    /// Nothing of a state is left.
-    #[test]
-    fn a_run_that_was_dropped() {
-        let state = left_of(
-            Run::<Aegis256X2>::new(&[1; 32], &[2; 32], b"header"),
-            |run| &run.state,
-        );
-        assert!(state.is_zero());
-        let mac = Run::<Aegis256X2>::of_mac(&[1; 32], &[2; 32]);
-        assert!(!mac.state.is_zero());
-        assert!(left_of(mac.clone(), |run| &run.state).is_zero());
-        assert!(!mac.state.is_zero());
-    }
 
     /// A run that has room for one more byte.
     fn nearly_full() -> Run<Aegis256X2> {
         let mut run = Run::new(&[1; 32], &[2; 32], &[]);
-        run.state.set_message_bytes(MAX_AEAD_BYTES - 1);
+        run.state.message_bytes = MAX_AEAD_BYTES - 1;
         run
     }
 
@@ -178,7 +171,7 @@ mod tests {
     #[should_panic = "the message is longer than 2^61 - 1 bytes"]
     fn a_mac_panics() {
         let mut run = Run::of_mac(&[1; 32], &[2; 32]);
-        run.state.set_message_bytes(MAX_AEAD_BYTES - 1);
+        run.state.message_bytes = MAX_AEAD_BYTES - 1;
         let mut mac = Mac::<Aegis256X2, 16>::of(run);
         assert_eq!(mac.remaining(), 1);
         mac.update(&[0; 2]);

@@ -39,12 +39,14 @@ pub trait Variant: sealed::Sealed {
 }
 
 pub(crate) mod sealed {
-    use crate::exports;
-
     /// What only this crate uses of a variant.
     pub trait Sealed {
-        /// The library's calls.
-        const EXPORTS: exports::Variant;
+        /// The number that the library has for it.
+        const NUMBER: u32;
+        /// The number of bytes of a key, and of a nonce.
+        const KEY_BYTES: usize;
+        /// The number of lanes.
+        const LANES: u8;
         /// The module's name.
         const MODULE: &'static str;
         /// The cipher's name.
@@ -62,74 +64,43 @@ pub(crate) const fn assert_tag_bytes<const TAG_BYTES: usize>() {
     }
 }
 
-/// The variants as types, for code that is generic over them.
-///
-/// ```
-/// use hunkravy::{Cipher, variants::Aegis256};
-///
-/// let cipher = Cipher::<Aegis256, 16>::new(&[1; 32], &[2; 32]);
-/// assert_eq!(format!("{cipher:?}"), "Aegis256 { .. }");
-/// ```
-pub mod variants {
-    /// Declares a variant, which is `Copy` if its cipher is.
-    macro_rules! variant {
-        ($module:ident, $standard:literal, $cipher:ident, $exports:ident $(, $copy:meta)?) => {
+/// Declares the variants, each with its type, which is `Copy` if its cipher is, and its module: names for the generic types with
+/// that variant.
+macro_rules! variants {
+    ($(
+        $(#[$use:meta])*
+        $module:ident, $standard:literal, $cipher:ident, $mac:ident, $bytes:literal bytes, $lanes:literal lanes, number $number:literal
+            $(, $copy:meta)?;
+    )*) => {
+        /// The variants as types, for code that is generic over them.
+        ///
+        /// ```
+        /// use hunkravy::{Cipher, variants::Aegis256};
+        ///
+        /// let cipher = Cipher::<Aegis256, 16>::new(&[1; 32], &[2; 32]);
+        /// assert_eq!(format!("{cipher:?}"), "Aegis256 { .. }");
+        /// ```
+        pub mod variants {$(
             #[doc = $standard]
             $(#[$copy])?
             #[derive(Debug)]
             pub struct $cipher;
 
             impl crate::Variant for $cipher {
-                type Key = crate::$module::Key;
-                type Nonce = crate::$module::Nonce;
+                type Key = [u8; $bytes];
+                type Nonce = [u8; $bytes];
             }
 
             impl super::sealed::Sealed for $cipher {
-                const EXPORTS: crate::exports::Variant = crate::exports::$exports;
+                const NUMBER: u32 = $number;
+                const KEY_BYTES: usize = $bytes;
+                const LANES: u8 = $lanes;
                 const MODULE: &'static str = stringify!($module);
                 const CIPHER: &'static str = stringify!($cipher);
             }
-        };
-    }
+        )*}
 
-    variant!(aegis128l, "AEGIS-128L", Aegis128L, AEGIS128L);
-    variant!(
-        aegis128x2,
-        "AEGIS-128X2",
-        Aegis128X2,
-        AEGIS128X2,
-        derive(Clone, Copy)
-    );
-    variant!(
-        aegis128x4,
-        "AEGIS-128X4",
-        Aegis128X4,
-        AEGIS128X4,
-        derive(Clone, Copy)
-    );
-    variant!(aegis256, "AEGIS-256", Aegis256, AEGIS256);
-    variant!(
-        aegis256x2,
-        "AEGIS-256X2",
-        Aegis256X2,
-        AEGIS256X2,
-        derive(Clone, Copy)
-    );
-    variant!(
-        aegis256x4,
-        "AEGIS-256X4",
-        Aegis256X4,
-        AEGIS256X4,
-        derive(Clone, Copy)
-    );
-}
-
-/// A variant's module: names for the generic types with that variant.
-macro_rules! module {
-    (
-        $(#[$use:meta])*
-        mod $module:ident, $standard:literal, $cipher:ident, $mac:ident, $bytes:literal
-    ) => {
+        $(
         #[doc = concat!($standard, ": keys and nonces of ", $bytes, " bytes.")]
         ///
         $(#[$use])*
@@ -216,30 +187,21 @@ macro_rules! module {
             /// ```
             pub type $mac<const TAG_BYTES: usize> = crate::Mac<crate::variants::$cipher, TAG_BYTES>;
         }
+        )*
     };
 }
 
-module! {
+variants! {
     /// Faster than AEGIS-256. Generate at most 2^48 random nonces under one key.
-    mod aegis128l, "AEGIS-128L", Aegis128L, Aegis128LMac, 16
-}
-module! {
+    aegis128l, "AEGIS-128L", Aegis128L, Aegis128LMac, 16 bytes, 1 lanes, number 0;
     /// For data of other programs that use it.
-    mod aegis128x2, "AEGIS-128X2", Aegis128X2, Aegis128X2Mac, 16
-}
-module! {
+    aegis128x2, "AEGIS-128X2", Aegis128X2, Aegis128X2Mac, 16 bytes, 2 lanes, number 1, derive(Clone, Copy);
     /// For data of other programs that use it.
-    mod aegis128x4, "AEGIS-128X4", Aegis128X4, Aegis128X4Mac, 16
-}
-module! {
+    aegis128x4, "AEGIS-128X4", Aegis128X4, Aegis128X4Mac, 16 bytes, 4 lanes, number 2, derive(Clone, Copy);
     /// Use it unless you have a reason for another. Nonces may be random.
-    mod aegis256, "AEGIS-256", Aegis256, Aegis256Mac, 32
-}
-module! {
+    aegis256, "AEGIS-256", Aegis256, Aegis256Mac, 32 bytes, 1 lanes, number 3;
     /// For data of other programs that use it. Nonces may be random.
-    mod aegis256x2, "AEGIS-256X2", Aegis256X2, Aegis256X2Mac, 32
-}
-module! {
+    aegis256x2, "AEGIS-256X2", Aegis256X2, Aegis256X2Mac, 32 bytes, 2 lanes, number 4, derive(Clone, Copy);
     /// For data of other programs that use it. Nonces may be random.
-    mod aegis256x4, "AEGIS-256X4", Aegis256X4, Aegis256X4Mac, 32
+    aegis256x4, "AEGIS-256X4", Aegis256X4, Aegis256X4Mac, 32 bytes, 4 lanes, number 5, derive(Clone, Copy);
 }

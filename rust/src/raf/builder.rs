@@ -3,12 +3,11 @@
 use super::changes::Changes;
 use super::io::{Beside, FileIo, JournalChoice, JournalFile, RafIo, journal_path};
 use super::journal::empty;
-use super::layout::{ID_BYTES, Layout, is_chunk_size};
+use super::layout::{ID_BYTES, Layout, PageHeader, is_chunk_size};
 use super::recovery::recover;
 use super::rng::{DefaultRng, RafRng, checked_nonce};
 use super::system::Process;
 use super::{Algorithm, Error, Raf, Result, default_chunk_size};
-use crate::exports::PageHeader;
 use crate::memory::zeros;
 use alloc::vec::Vec;
 use core::fmt;

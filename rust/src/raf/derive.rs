@@ -1,7 +1,9 @@
 //! Keys of files, derived from a master key.
 
 use super::{Error, Result};
-use crate::exports::{AEGIS128L, AEGIS256};
+use crate::exports;
+use crate::variant::sealed::Sealed;
+use crate::variants::{Aegis128L, Aegis256};
 
 /// What the input of each derivation begins with.
 const DOMAIN: &[u8; 24] = b"hunkravy raf file key v1";
@@ -36,10 +38,9 @@ pub fn derive_key<const N: usize>(master_key: &[u8; N], context: &[u8]) -> Resul
 
 /// Writes the key of a context to `key`, which has the length of the master key.
 pub(super) fn derive(master_key: &[u8], context: &[u8], key: &mut [u8]) -> Result<()> {
-    let (variant, most) = if key.len() == 16 {
-        (&AEGIS128L, MAX_CONTEXT_BYTES)
-    } else {
-        (&AEGIS256, 72)
+    let (variant, most) = match key.len() {
+        16 => (Aegis128L::NUMBER, MAX_CONTEXT_BYTES),
+        _ => (Aegis256::NUMBER, 72),
     };
     if context.len() > most {
         return Err(Error::ContextTooLong);
@@ -48,7 +49,7 @@ pub(super) fn derive(master_key: &[u8], context: &[u8], key: &mut [u8]) -> Resul
     input[..DOMAIN.len()].copy_from_slice(DOMAIN);
     input[DOMAIN.len()..][..context.len()].copy_from_slice(context);
     let input = &input[..DOMAIN.len() + context.len()];
-    let answer = variant.mac(input, &[0; 32][..key.len()], master_key, key);
+    let answer = exports::mac(variant, input, &[0; 32][..key.len()], master_key, key);
     assert_eq!(answer, Ok(()), "the lengths are right");
     Ok(())
 }

@@ -3,14 +3,23 @@
 //! A journal has the writes, which are encrypted pages and headers, and their MAC. Its bytes come from proved functions of the
 //! library. The proved crate `aegis_storage` writes the same bytes between the same syncs. Here neighbouring writes are one call.
 
+use super::Algorithm;
 use super::io::RafIo;
-use crate::exports::{
-    JOURNAL_BEGINNING_BYTES, JOURNAL_HEAD_BYTES, JOURNAL_MAC_BYTES, JOURNAL_START_BYTES, Refusal,
-    State, journal_next,
-};
+use crate::exports::{Refusal, State};
+use crate::exports::{journal_check, journal_entry, journal_final, journal_next};
 use crate::memory::with_room;
 use alloc::vec::Vec;
 use std::io;
+
+/// The length of a journal's nonce.
+pub const NONCE_BYTES: usize = 16;
+/// The length of the beginning of a journal, which names its file, and fills a sector.
+pub const BEGINNING_BYTES: usize = 512;
+/// How many bytes a journal has in front of its writes: the beginning and the nonce.
+const START_BYTES: usize = BEGINNING_BYTES + NONCE_BYTES;
+/// How many bytes a write in a journal has in front of its own, and a journal after its writes.
+const HEAD_BYTES: usize = 16;
+const MAC_BYTES: usize = 32;
 
 /// A write that is to be made.
 #[derive(Clone, Copy)]
@@ -19,24 +28,18 @@ pub struct PendingWrite<'b> {
     pub bytes: &'b [u8],
 }
 
-/// A journal that was begun: its MAC so far, which is overwritten when it is dropped, and its first bytes.
+/// A journal that was begun: its MAC so far, and its first bytes.
 pub struct JournalSeal {
     pub state: State,
-    pub start: [u8; JOURNAL_START_BYTES],
+    pub start: [u8; START_BYTES],
 }
 
 impl Default for JournalSeal {
     fn default() -> Self {
         JournalSeal {
             state: State::ENDED,
-            start: [0; JOURNAL_START_BYTES],
+            start: [0; START_BYTES],
         }
-    }
-}
-
-impl Drop for JournalSeal {
-    fn drop(&mut self) {
-        self.state.wipe();
     }
 }
 
@@ -64,10 +67,10 @@ fn write_journal(
     writes: &[PendingWrite<'_>],
     buffer: &mut Buffer,
 ) -> io::Result<()> {
-    journal.write_at(&seal.start[..JOURNAL_BEGINNING_BYTES], 0)?;
+    journal.write_at(&seal.start[..BEGINNING_BYTES], 0)?;
     journal.sync()?;
     let mut neighbours = Neighbours::new(journal, buffer);
-    let mut place = JOURNAL_BEGINNING_BYTES as u64;
+    let mut place = BEGINNING_BYTES as u64;
     pass_content(seal, writes, |bytes| {
         neighbours.write(bytes, place)?;
         place += bytes.len() as u64;
@@ -82,14 +85,16 @@ fn pass_content(
     writes: &[PendingWrite<'_>],
     mut pass: impl FnMut(&[u8]) -> io::Result<()>,
 ) -> io::Result<()> {
-    pass(&seal.start[JOURNAL_BEGINNING_BYTES..])?;
+    pass(&seal.start[BEGINNING_BYTES..])?;
     for write in writes {
-        let head = seal.state.journal_entry(write.place, write.bytes);
-        pass(&head.map_err(too_long)?)?;
+        let mut head = [0; HEAD_BYTES];
+        let answer = journal_entry(&mut seal.state, write.place, write.bytes, &mut head);
+        answer.map_err(too_long)?;
+        pass(&head)?;
         pass(write.bytes)?;
     }
-    let mut mac = [0; JOURNAL_MAC_BYTES];
-    seal.state.journal_final(&mut mac).map_err(too_long)?;
+    let mut mac = [0; MAC_BYTES];
+    journal_final(&mut seal.state, &mut mac).map_err(too_long)?;
     pass(&mac)
 }
 
@@ -177,11 +182,28 @@ pub fn empty(journal: &mut impl RafIo) -> io::Result<()> {
     journal.sync()
 }
 
+/// Returns the part of a journal that has writes which are to be made again, or no bytes. After them the journal is to be emptied.
+/// `file` is what its file begins with: at least 512 bytes, or all.
+///
+/// [`Refusal::WRONG_JOURNAL`]: the journal is that of another file, or of another state of this one. Any other error: the file has no
+/// header of this algorithm and key, and the journal is not whole.
+pub fn checked_writes<'j, A: Algorithm>(
+    file: &[u8],
+    key: &A::Key,
+    journal: &'j [u8],
+) -> Result<&'j [u8], Refusal> {
+    let mut length = 0;
+    journal_check(A::NUMBER, file, key.as_ref(), journal, &mut length)?;
+    let writes = journal.get(START_BYTES..).unwrap_or(&[]);
+    Ok(&writes[..length])
+}
+
 /// The writes in the part of a journal that has them.
 pub fn journaled_writes(mut part: &[u8]) -> impl Iterator<Item = PendingWrite<'_>> {
     core::iter::from_fn(move || {
-        let (place, length) = journal_next(part).ok()?;
-        let (bytes, rest) = part[JOURNAL_HEAD_BYTES..].split_at(length);
+        let (mut place, mut length) = (0, 0);
+        journal_next(part, &mut place, &mut length).ok()?;
+        let (bytes, rest) = part[HEAD_BYTES..].split_at(length);
         part = rest;
         Some(PendingWrite { place, bytes })
     })
@@ -189,31 +211,19 @@ pub fn journaled_writes(mut part: &[u8]) -> impl Iterator<Item = PendingWrite<'_
 
 #[cfg(test)]
 mod tests {
-    use super::{JournalSeal, PendingWrite, journaled_writes, pass_content};
-    use crate::exports::{AEGIS256, State};
-    use crate::raf::layout::HEADER_BLOCK_BYTES;
-    use crate::wipe::tests::left_of;
+    use super::{PendingWrite, checked_writes, journaled_writes, pass_content};
+    use crate::raf::Aegis256;
+    use crate::raf::layout::{HEADER_BLOCK_BYTES, Layout, PageHeader};
     use alloc::vec::Vec;
-
-    fn begun() -> JournalSeal {
-        let mut seal = JournalSeal::default();
-        let (state, start) = (&mut seal.state, &mut seal.start);
-        let answer = AEGIS256.journal_init(state, 4032, &[1; 24], &[2; 16], &[3; 32], start);
-        assert_eq!(answer, Ok(()));
-        seal
-    }
-
-    /// Nothing of the MAC is left.
-    #[test]
-    fn a_seal_that_was_dropped() {
-        assert!(!begun().state.is_zero());
-        let state: State = left_of(begun(), |seal| &seal.state);
-        assert!(state.is_zero());
-    }
 
     /// A journal has only writes within the longest file.
     #[test]
     fn writes_within_the_longest_file() {
+        let header = PageHeader {
+            page_size: 4032,
+            ..PageHeader::default()
+        };
+        let begun = || Layout::<Aegis256>::of(&[3; 32], &header).journal(&[2; 16]);
         for (place, is_within) in [
             (0, true),
             ((1 << 63) - 4, true),
@@ -231,7 +241,7 @@ mod tests {
             if is_within {
                 // The file has no header, so any whole journal is accepted.
                 let file = [0; HEADER_BLOCK_BYTES];
-                let part = AEGIS256.journal_check(&file, &[3; 32], &journal).unwrap();
+                let part = checked_writes::<Aegis256>(&file, &[3; 32], &journal).unwrap();
                 let found: Vec<_> = journaled_writes(part)
                     .map(|write| (write.place, write.bytes))
                     .collect();

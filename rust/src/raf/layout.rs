@@ -1,8 +1,8 @@
 //! How a file is laid out: its header and its pages, which the library seals and opens.
 
 use super::Algorithm;
-use super::journal::JournalSeal;
-use crate::exports::{JOURNAL_NONCE_BYTES, PageHeader};
+use super::journal::{JournalSeal, NONCE_BYTES};
+use crate::exports;
 use crate::wipe::wipe;
 
 /// How many bytes are read in one call, at most, unless a page has more.
@@ -20,6 +20,16 @@ pub const PLAINTEXT_HEADER_BYTES: usize = 33;
 
 /// What a file begins with.
 pub const MAGIC: [u8; 4] = *b"AGP1";
+
+/// The contents of a header.
+#[derive(Default)]
+pub struct PageHeader {
+    pub page_size: u32,
+    pub id: [u8; ID_BYTES],
+    /// How many headers were written before it.
+    pub counter: u64,
+    pub contents_len: u64,
+}
 
 /// The key, the page size and the id of a file. The key is overwritten when it is dropped.
 pub struct Layout<A: Algorithm> {
@@ -40,7 +50,7 @@ impl<A: Algorithm> Layout<A> {
 
     /// The length of a page.
     pub fn page_bytes(&self) -> usize {
-        A::EXPORTS.key_bytes + self.chunk_size as usize + TAG_BYTES
+        A::KEY_BYTES + self.chunk_size as usize + TAG_BYTES
     }
 
     /// How many pages are read in one call, at most.
@@ -67,43 +77,47 @@ impl<A: Algorithm> Layout<A> {
 
     /// The contents of a page.
     pub fn contents<'a>(&self, page: &'a mut [u8]) -> &'a mut [u8] {
-        &mut page[A::EXPORTS.key_bytes..][..self.chunk_size as usize]
+        &mut page[A::KEY_BYTES..][..self.chunk_size as usize]
     }
 
     /// Seals the page of this number, whose contents are in its place.
     pub fn seal(&self, number: u64, nonce: &A::Nonce, page: &mut [u8]) {
         let (nonce, key) = (nonce.as_ref(), self.key.as_ref());
-        let answer = A::EXPORTS.page_seal(page, &self.id, number, nonce, key);
+        let answer = exports::page_seal(A::NUMBER, page, &self.id, number, nonce, key);
         assert_eq!(answer, Ok(()), "the lengths and the number are right");
     }
 
     /// Opens the page of this number. If it was not sealed under it, each byte is erased.
     pub fn open(&self, number: u64, page: &mut [u8]) -> bool {
-        let answer = A::EXPORTS.page_open(page, &self.id, number, self.key.as_ref());
+        let answer = exports::page_open(A::NUMBER, page, &self.id, number, self.key.as_ref());
         answer.is_ok()
     }
 
     /// Returns the block of the header of this counter, for contents of `size` bytes.
     pub fn header(&self, counter: u64, size: u64, nonce: &A::Nonce) -> [u8; HEADER_BLOCK_BYTES] {
-        let header = PageHeader {
-            page_size: self.chunk_size,
-            id: self.id,
-            counter,
-            contents_len: size,
-        };
-        let mut header_block = [0; HEADER_BLOCK_BYTES];
+        let mut block = [0; HEADER_BLOCK_BYTES];
         let (nonce, key) = (nonce.as_ref(), self.key.as_ref());
-        let answer = A::EXPORTS.page_header_seal(&mut header_block, &header, nonce, key);
+        let (page_size, id) = (self.chunk_size, &self.id);
+        let answer = exports::page_header_seal(
+            A::NUMBER,
+            &mut block,
+            page_size,
+            id,
+            counter,
+            size,
+            nonce,
+            key,
+        );
         assert_eq!(answer, Ok(()), "the chunk size and the lengths are right");
-        header_block
+        block
     }
 
     /// Begins the journal of a commit. A nonce is for one journal only.
-    pub fn journal(&self, nonce: &[u8; JOURNAL_NONCE_BYTES]) -> JournalSeal {
+    pub fn journal(&self, nonce: &[u8; NONCE_BYTES]) -> JournalSeal {
         let mut seal = JournalSeal::default();
+        let (st, start) = (&mut seal.state, &mut seal.start);
         let (size, id, key) = (self.chunk_size, &self.id, self.key.as_ref());
-        let answer =
-            A::EXPORTS.journal_init(&mut seal.state, size, id, nonce, key, &mut seal.start);
+        let answer = exports::journal_init(A::NUMBER, st, size, id, nonce, key, start);
         assert_eq!(answer, Ok(()), "the chunk size and the lengths are right");
         seal
     }
@@ -127,7 +141,7 @@ impl<A: Algorithm> Drop for Layout<A> {
 
 /// The byte that names an algorithm in a header: the length of its keys, and its number of lanes.
 pub fn algorithm_byte<A: Algorithm>() -> u8 {
-    A::EXPORTS.key_bytes as u8 + A::EXPORTS.lanes
+    A::KEY_BYTES as u8 + A::LANES
 }
 
 /// Returns whether a page may have this number of bytes of contents.
@@ -147,7 +161,17 @@ pub fn open_header<A: Algorithm>(
     key: &A::Key,
     header_block: &[u8; HEADER_BLOCK_BYTES],
 ) -> Option<PageHeader> {
-    A::EXPORTS.page_header_open(header_block, key.as_ref()).ok()
+    let mut header = PageHeader::default();
+    let opened = exports::page_header_open(
+        A::NUMBER,
+        header_block,
+        key.as_ref(),
+        &mut header.page_size,
+        &mut header.id,
+        &mut header.counter,
+        &mut header.contents_len,
+    );
+    opened.ok().map(|()| header)
 }
 
 /// Returns the nonce that no page and no header has.
@@ -159,8 +183,7 @@ pub fn commitment_nonce<A: Algorithm>() -> A::Nonce {
 
 #[cfg(test)]
 mod tests {
-    use super::Layout;
-    use crate::exports::PageHeader;
+    use super::{Layout, PageHeader};
     use crate::raf::{Aegis128L, Aegis256};
     use crate::wipe::tests::left_of;
 

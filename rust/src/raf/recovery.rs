@@ -1,11 +1,11 @@
 //! Opening a file and its journal: completing a commit that was interrupted.
 
 use super::io::{RafIo, read_all};
-use super::journal::{Buffer, empty, journaled_writes, write_and_sync};
-use super::layout::{HEADER_BLOCK_BYTES, ID_BYTES, Layout, open_header};
+use super::journal::{BEGINNING_BYTES, Buffer, NONCE_BYTES};
+use super::journal::{checked_writes, empty, journaled_writes, write_and_sync};
+use super::layout::{HEADER_BLOCK_BYTES, Layout, PageHeader, open_header};
 use super::{Algorithm, Error, Result, default_chunk_size};
-use crate::exports::{JOURNAL_BEGINNING_BYTES, JOURNAL_NONCE_BYTES};
-use crate::exports::{PageHeader, Refusal};
+use crate::exports::Refusal;
 use crate::memory::zeros;
 use crate::wipe::Wiped;
 use alloc::vec::Vec;
@@ -44,16 +44,14 @@ impl FileStart {
     fn is_of<A: Algorithm>(&self, key: &A::Key, found: &[u8]) -> bool {
         let any = PageHeader {
             page_size: default_chunk_size::<A>(),
-            id: [0; ID_BYTES],
-            counter: 0,
-            contents_len: 0,
+            ..PageHeader::default()
         };
         let known = match self.header {
-            Some(_) => JOURNAL_BEGINNING_BYTES,
+            Some(_) => BEGINNING_BYTES,
             None => COMMON_BYTES,
         };
         let layout = Layout::<A>::of(key, self.header.as_ref().unwrap_or(&any));
-        let own = layout.journal(&[0; JOURNAL_NONCE_BYTES]);
+        let own = layout.journal(&[0; NONCE_BYTES]);
         found.starts_with(&own.start[..known])
     }
 
@@ -64,7 +62,7 @@ impl FileStart {
         key: &A::Key,
     ) -> Result<Vec<u8>> {
         if journal.get_size()? > MOST_FOREIGN_BYTES {
-            let mut first = [0; JOURNAL_BEGINNING_BYTES];
+            let mut first = [0; BEGINNING_BYTES];
             journal.read_at(&mut first, 0)?;
             if !self.is_of::<A>(key, &first) {
                 return Err(self.refusal());
@@ -132,9 +130,9 @@ pub fn recover<A: Algorithm>(
     let start = FileStart::read::<A>(io, key)?;
     let content = start.read_journal::<A>(journal, key)?;
     let file = start.block.as_ref().map_or(&[][..], |block| block);
-    let writes = match A::EXPORTS.journal_check(file, key.as_ref(), &content) {
+    let writes = match checked_writes::<A>(file, key, &content) {
         Ok(writes) => writes,
-        Err(Refusal::WrongJournal) => return Err(Error::Journal),
+        Err(Refusal::WRONG_JOURNAL) => return Err(Error::Journal),
         Err(_) => return Err(Error::Header),
     };
     // If no power was lost, what can be read may not be synced yet.
@@ -163,8 +161,8 @@ pub fn recover<A: Algorithm>(
 /// The beginning was synced before the rest was written. If a write of the commit was begun, so was all of the journal. Then it
 /// must not be written: a crash might tear it.
 fn write_again(journal: &mut impl RafIo, content: &[u8]) -> io::Result<()> {
-    let (_, rest) = content.split_at(JOURNAL_BEGINNING_BYTES);
-    journal.write_at(rest, JOURNAL_BEGINNING_BYTES as u64)
+    let (_, rest) = content.split_at(BEGINNING_BYTES);
+    journal.write_at(rest, BEGINNING_BYTES as u64)
 }
 
 /// Reads the header block, or returns `None` if there are fewer bytes.

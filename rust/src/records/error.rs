@@ -74,9 +74,9 @@ impl From<Error> for std::io::Error {
 /// The error of beginning a stream.
 pub(super) fn of_begin(refusal: Refusal) -> Error {
     match refusal {
-        Refusal::ContextTooLong => Error::ContextTooLong,
-        Refusal::UnknownHeader => Error::Header,
-        Refusal::MessageTooLong => Error::StreamTooLong,
+        Refusal::CONTEXT_TOO_LONG => Error::ContextTooLong,
+        Refusal::UNKNOWN_HEADER => Error::Header,
+        Refusal::MESSAGE_TOO_LONG => Error::StreamTooLong,
         other => unreachable!("the library refused to begin a stream: {other:?}"),
     }
 }

@@ -3,6 +3,7 @@
 use super::error::of_begin;
 use super::{Error, HEADER_BYTES, Key, Position, Prefix, RECORD_BYTES, RECORD_HEAD_BYTES};
 use crate::exports::{Records, Refusal};
+use crate::exports::{record_begin_open, record_begin_open_at, record_len, record_open};
 use alloc::vec::Vec;
 use core::fmt;
 
@@ -65,8 +66,10 @@ impl<'c> Opener<'c> {
         header: &[u8],
     ) -> Result<Self, Error> {
         let known = <&[u8; HEADER_BYTES]>::try_from(header).unwrap_or(&[0; HEADER_BYTES]);
-        let records = Records::begin_open(key, prefix, context, known).map_err(of_begin)?;
-        Ok(Self::of(records, Position::default()))
+        let mut opener = Self::of(Position::default());
+        let begun = record_begin_open(&mut opener.records, key, prefix, context, known);
+        begun.map_err(of_begin)?;
+        Ok(opener)
     }
 
     /// Begins to open a stream at one of its records, without those before it.
@@ -98,14 +101,16 @@ impl<'c> Opener<'c> {
         context: &'c [u8],
         position: Position,
     ) -> Result<Self, Error> {
-        let Position { number, before } = position;
-        let records = Records::begin_open_at(key, prefix, context, number, before);
-        Ok(Self::of(records.map_err(of_begin)?, position))
+        let mut opener = Self::of(position);
+        let (st, Position { number, before }) = (&mut opener.records, position);
+        let begun = record_begin_open_at(st, key, prefix, context, number, before);
+        begun.map_err(of_begin)?;
+        Ok(opener)
     }
 
-    fn of(records: Records<'c>, next: Position) -> Self {
+    fn of(next: Position) -> Self {
         Self {
-            records,
+            records: Records::ENDED,
             next,
             end: None,
         }
@@ -133,14 +138,13 @@ impl<'c> Opener<'c> {
     /// record.
     pub fn record_len(&mut self, head: &[u8; RECORD_HEAD_BYTES]) -> Result<usize, Error> {
         self.check()?;
-        let length = self.records.record_len(head);
-        length.map_err(|refusal| {
-            self.fail(match refusal {
-                Refusal::InvalidTag => Error::Flag,
-                Refusal::MessageTooLong => Error::TooLong,
-                other => unreachable!("the library refused the head of a record: {other:?}"),
-            })
-        })
+        let mut length = 0;
+        match record_len(&self.records, head, &mut length) {
+            Ok(()) => Ok(length),
+            Err(Refusal::INVALID_TAG) => Err(self.fail(Error::Flag)),
+            Err(Refusal::MESSAGE_TOO_LONG) => Err(self.fail(Error::TooLong)),
+            Err(other) => unreachable!("the library refused the head of a record: {other:?}"),
+        }
     }
 
     /// Opens the next record, which is at the beginning of `bytes`. Pass at least the whole record, or the rest of the stream.
@@ -268,19 +272,17 @@ impl<'c> Opener<'c> {
 
     /// Opens the next record, and returns whether it is the last one.
     fn open(&mut self, record: &mut [u8]) -> Result<bool, Error> {
-        let is_last = self.records.open(record).map_err(|refusal| {
-            self.fail(match refusal {
-                Refusal::InvalidTag => Error::Damaged(self.next.number),
-                Refusal::MessageTooLong => Error::StreamTooLong,
-                other => unreachable!("the library refused to open a record: {other:?}"),
-            })
-        })?;
-        self.next.number += 1;
-        self.next.before += (record.len() - RECORD_BYTES) as u64;
-        if is_last {
-            self.end = Some(End::Last);
+        let (mut message_len, mut is_last) = (0, 0);
+        match record_open(&mut self.records, record, &mut message_len, &mut is_last) {
+            Ok(()) => (),
+            Err(Refusal::INVALID_TAG) => return Err(self.fail(Error::Damaged(self.next.number))),
+            Err(Refusal::MESSAGE_TOO_LONG) => return Err(self.fail(Error::StreamTooLong)),
+            Err(other) => unreachable!("the library refused to open a record: {other:?}"),
         }
-        Ok(is_last)
+        self.next.number += 1;
+        self.next.before += message_len as u64;
+        self.end = (is_last == 1).then_some(End::Last);
+        Ok(self.has_ended())
     }
 }
 

@@ -2,7 +2,7 @@
 
 use super::error::of_begin;
 use super::{Error, HEADER_BYTES, Key, MAX_MESSAGE_BYTES, Prefix, RECORD_BYTES, RECORD_HEAD_BYTES};
-use crate::exports::{Records, Refusal};
+use crate::exports::{Records, Refusal, record_begin};
 use crate::wipe::wipe;
 use alloc::vec::Vec;
 use core::fmt;
@@ -45,7 +45,9 @@ impl<'c> Sealer<'c> {
     /// assert_eq!(refused, Err(Error::ContextTooLong));
     /// ```
     pub fn new(key: &Key, prefix: &Prefix, context: &'c [u8]) -> Result<Self, Error> {
-        let (records, header) = Records::begin(key, prefix, context).map_err(of_begin)?;
+        let (mut records, mut header) = (Records::ENDED, [0; HEADER_BYTES]);
+        let begun = record_begin(&mut records, key, prefix, context, &mut header);
+        begun.map_err(of_begin)?;
         Ok(Self { records, header })
     }
 
@@ -152,8 +154,8 @@ impl<'c> Sealer<'c> {
         }
         match self.records.seal(record, is_last) {
             Ok(()) => Ok(()),
-            Err(Refusal::MessageTooLong) => Err(Error::StreamTooLong),
-            Err(Refusal::WrongState) => Err(Error::Ended),
+            Err(Refusal::MESSAGE_TOO_LONG) => Err(Error::StreamTooLong),
+            Err(Refusal::WRONG_STATE) => Err(Error::Ended),
             Err(refusal) => unreachable!("the library refused to seal a record: {refusal:?}"),
         }
     }
@@ -177,7 +179,8 @@ mod tests {
     #[test]
     fn the_longest_stream() {
         let mut sealer = Sealer::new(&[1; 32], &[2; 24], b"context").unwrap();
-        sealer.records.set_before(MAX_AEAD_BYTES - 4 - 37 - 10);
+        // The bytes of all messages so far.
+        sealer.records.opaque[2] = MAX_AEAD_BYTES - 4 - 37 - 10;
         let mut stream = vec![3; 5];
         let sealed = sealer.seal_next(&[9; 11], &mut stream);
         assert_eq!(
