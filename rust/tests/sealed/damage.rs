@@ -1,20 +1,18 @@
 //! The stored file, damaged in each way.
 
-use crate::support::{
-    CONTENTS, Damaged, Failing, MESSAGES, Slow, damaged, data, fault_of, key, sealed,
-};
+use crate::support::*;
+use hunkravy::ERASED;
 use hunkravy::files::{SealedReader, read_key};
 use hunkravy::records::{Error, Opener};
+use std::cell::Cell;
 use std::fs;
 use std::io::{BufRead, Cursor, ErrorKind, Read, Seek, SeekFrom};
 
-/// Contents that a stored variant has.
-fn is_front_of_contents(bytes: &[u8]) -> bool {
-    CONTENTS.starts_with(bytes) || b"xyz".starts_with(bytes)
-}
+/// What is read, and the fault after it.
+type Found = (Vec<u8>, Option<Error>);
 
 /// Reads to the end or to a fault, in reads of so many bytes.
-fn read_all(reader: &mut impl Read, most: usize) -> (Vec<u8>, Option<Error>) {
+fn read_all(reader: &mut impl Read, most: usize) -> Found {
     let (mut contents, mut buf) = (Vec::new(), vec![0; most]);
     loop {
         match reader.read(&mut buf) {
@@ -25,11 +23,11 @@ fn read_all(reader: &mut impl Read, most: usize) -> (Vec<u8>, Option<Error>) {
     }
 }
 
-fn check(damaged: &Damaged, found: (Vec<u8>, Option<Error>)) {
-    let (contents, fault) = found;
-    assert_eq!(fault, damaged.cause, "{}", damaged.name);
-    assert_eq!(contents.len(), damaged.verified, "{}", damaged.name);
-    assert!(is_front_of_contents(&contents), "{}", damaged.name);
+fn check(damaged: &Damaged, (contents, fault): Found) {
+    let (name, expected) = (&damaged.name, (damaged.cause, damaged.verified));
+    assert_eq!((fault, contents.len()), expected, "{name}");
+    let is_of_a_variant = CONTENTS.starts_with(&contents) || b"xyz".starts_with(&contents);
+    assert!(is_of_a_variant, "{name}");
 }
 
 /// The stored file is what the messages are sealed to, and its key is that of the key file.
@@ -51,7 +49,7 @@ fn read_in_any_lengths() {
     for damaged in damaged() {
         for inner_most in [1, 3, 64, usize::MAX] {
             for most in [1, 2, 7, 100_000] {
-                let inner = Slow::new(&damaged.bytes[..], inner_most);
+                let inner = Before(&damaged.bytes[..], slow(inner_most));
                 let mut reader = SealedReader::new(inner, &damaged.key);
                 check(&damaged, read_all(&mut reader, most));
                 stays(&damaged, &mut reader);
@@ -65,10 +63,8 @@ fn stays(damaged: &Damaged, reader: &mut SealedReader<impl Read>) {
     for _ in 0..2 {
         assert_eq!(read_all(reader, 10), (Vec::new(), damaged.cause));
         let found = reader.fill_buf().map(<[u8]>::len);
-        assert_eq!(
-            found.map_err(|error| fault_of(&error)),
-            damaged.cause.map_or(Ok(0), Err)
-        );
+        let found = found.map_err(|error| fault_of(&error));
+        assert_eq!(found, damaged.cause.map_or(Ok(0), Err));
     }
     assert_eq!(reader.read(&mut []).unwrap(), 0);
 }
@@ -78,7 +74,9 @@ fn stays(damaged: &Damaged, reader: &mut SealedReader<impl Read>) {
 fn read_with_errors() {
     for damaged in damaged() {
         for calls in 0..20 {
-            let inner = Failing::after(Slow::new(&damaged.bytes[..], 17), calls);
+            let left = Cell::new(calls);
+            let slow = Before(&damaged.bytes[..], slow(17));
+            let inner = Before(slow, failing(&left));
             let mut reader = SealedReader::new(inner, &damaged.key);
             let (mut contents, mut blocked) = (Vec::new(), 0);
             let fault = loop {
@@ -93,7 +91,7 @@ fn read_with_errors() {
                     Err(error) => break Some(fault_of(&error)),
                 }
             };
-            assert_eq!(blocked, usize::from(reader.get_ref().left.is_none()));
+            assert_eq!(blocked, usize::from(left.get() > calls));
             check(&damaged, (contents, fault));
         }
     }
@@ -136,12 +134,8 @@ fn check_sought(damaged: &Damaged, contents: &[u8], place: usize, to: SeekFrom) 
         }
         Err(error) => Some(fault_of(&error)),
     };
-    assert!(
-        fault.is_none() || damaged.cause.is_some(),
-        "{} {to:?}",
-        damaged.name
-    );
     if let Some(fault) = fault {
+        assert!(damaged.cause.is_some(), "{} {to:?}", damaged.name);
         let again = reader.rewind().unwrap_err();
         assert_eq!(fault_of(&again), fault);
         assert_eq!(read_all(&mut reader, 3), (Vec::new(), Some(fault)));
@@ -154,19 +148,17 @@ fn opened_in_memory() {
     for damaged in damaged().iter().filter(|damaged| damaged.bytes.len() >= 24) {
         let (prefix, stream) = damaged.bytes.split_first_chunk().unwrap();
         let (header, records) = stream.split_at(stream.len().min(4));
-        let opener = Opener::new(&damaged.key, prefix, b"hunkravy v1", header);
-        let Ok(opener) = opener else {
-            assert_eq!(opener.map(|_| ()).unwrap_err(), Error::Header);
-            check(damaged, (Vec::new(), Some(Error::Header)));
+        let opener = || Opener::new(&damaged.key, prefix, CONTEXT, header);
+        if let Err(error) = opener() {
+            check(damaged, (Vec::new(), Some(error)));
             continue;
-        };
-        check(damaged, open_all(opener, records));
-        let opener = Opener::new(&damaged.key, prefix, b"hunkravy v1", header).unwrap();
-        check(damaged, open_all_in_place(opener, &mut records.to_vec()));
+        }
+        check(damaged, open_all(opener().unwrap(), records));
+        check(damaged, open_all_in_place(opener().unwrap(), records));
     }
 }
 
-fn open_all(mut opener: Opener, mut rest: &[u8]) -> (Vec<u8>, Option<Error>) {
+fn open_all(mut opener: Opener, mut rest: &[u8]) -> Found {
     let mut contents = Vec::new();
     while !opener.has_ended() {
         match opener.open_next(rest) {
@@ -190,25 +182,25 @@ fn open_all(mut opener: Opener, mut rest: &[u8]) -> (Vec<u8>, Option<Error>) {
     (contents, opener.finish(rest).err())
 }
 
-fn open_all_in_place(mut opener: Opener, mut rest: &mut [u8]) -> (Vec<u8>, Option<Error>) {
+/// A damaged record is erased, and what is after it, or not a record, stays.
+fn open_all_in_place(mut opener: Opener, mut rest: &[u8]) -> Found {
     let mut contents = Vec::new();
     while !opener.has_ended() {
-        let before = rest.to_vec();
-        // The borrow of an opened record would last to the end of the loop.
         let mut copy = rest.to_vec();
-        if let Err(error) = opener.open_next_in_place(&mut copy) {
-            if let Error::Damaged(_) = error {
-                let length = 37 + u32::from_le_bytes(before[1..5].try_into().unwrap()) as usize;
-                assert!(copy[..length].iter().all(|byte| *byte == hunkravy::ERASED));
-                assert_eq!(copy[length..], before[length..]);
-            } else {
-                assert_eq!(copy, before);
+        let length = |head: &[u8]| u32::from_le_bytes(head[1..5].try_into().unwrap()) as usize;
+        match opener.open_next_in_place(&mut copy) {
+            Ok(opened) => {
+                contents.extend_from_slice(opened.message);
+                rest = &rest[length(rest) + 37..];
             }
-            return (contents, Some(error));
+            Err(error) => {
+                let is_erased = matches!(error, Error::Damaged(_));
+                let erased = if is_erased { length(rest) + 37 } else { 0 };
+                assert!(copy[..erased].iter().all(|byte| *byte == ERASED));
+                assert_eq!(copy[erased..], rest[erased..]);
+                return (contents, Some(error));
+            }
         }
-        let length = u32::from_le_bytes(before[1..5].try_into().unwrap()) as usize;
-        contents.extend_from_slice(&copy[5..][..length]);
-        rest = &mut rest[length + 37..];
     }
     (contents, opener.finish(rest).err())
 }

@@ -1,6 +1,6 @@
 //! Record streams.
 
-use crate::support::{CONTEXT, MESSAGES, data, fault_of, key, sealed};
+use crate::support::*;
 use hunkravy::records::*;
 use std::fs;
 
@@ -12,6 +12,10 @@ fn sealer() -> Sealer<'static> {
 
 fn opener(header: &[u8]) -> Opener<'static> {
     Opener::new(&key(), &PREFIX, CONTEXT, header).unwrap()
+}
+
+fn opener_at(number: u64, before: u64) -> Result<Opener<'static>, Error> {
+    Opener::begin_at(&key(), &PREFIX, CONTEXT, Position { number, before })
 }
 
 /// A record with a message in its place.
@@ -26,14 +30,14 @@ fn sealed_in_place() {
     let (prefix, stream) = file.split_first_chunk().unwrap();
     let mut sealer = Sealer::new(&key(), prefix, CONTEXT).unwrap();
     let mut sealed = sealer.header().to_vec();
-    for message in &MESSAGES[..4] {
+    for (number, message) in MESSAGES.iter().enumerate() {
         let mut record = record(message);
-        sealer.seal_next_in_place(&mut record).unwrap();
+        match number {
+            4 => sealer.seal_last_in_place(&mut record).unwrap(),
+            _ => sealer.seal_next_in_place(&mut record).unwrap(),
+        }
         sealed.extend(record);
     }
-    let mut last = record(MESSAGES[4]);
-    sealer.seal_last_in_place(&mut last).unwrap();
-    sealed.extend(last);
     assert_eq!(sealed, stream);
 }
 
@@ -42,31 +46,26 @@ fn sealed_in_place() {
 fn opened_at_each_position() {
     let file = sealed(&key(), &PREFIX, &MESSAGES);
     let stream = &file[24..];
-    let mut position = Position::default();
     let mut whole = opener(&stream[..4]);
+    let mut before = 0;
     for (number, message) in MESSAGES.iter().enumerate() {
-        assert_eq!(
-            (position.number, position),
-            (number as u64, whole.position())
-        );
+        let position = whole.position();
+        assert_eq!((position.number, position.before), (number as u64, before));
         let mut rest = &stream[position.offset() as usize..];
-        let mut opener = Opener::begin_at(&key(), &PREFIX, CONTEXT, position).unwrap();
+        check_wrong_positions(position, rest);
+        let _ = whole.open_next(rest).unwrap();
+        let mut opener = opener_at(position.number, before).unwrap();
         for expected in &MESSAGES[number..] {
             let opened = opener.open_next(rest).unwrap();
             assert_eq!(opened.message, *expected);
             rest = opened.rest;
         }
         assert_eq!(opener.finish(rest), Ok(()));
-        wrong_positions(position, &stream[position.offset() as usize..]);
-        let _ = whole
-            .open_next(&stream[position.offset() as usize..])
-            .unwrap();
-        position.number += 1;
-        position.before += message.len() as u64;
+        before += message.len() as u64;
     }
 }
 
-fn wrong_positions(right: Position, bytes: &[u8]) {
+fn check_wrong_positions(right: Position, bytes: &[u8]) {
     let Position { number, before } = right;
     for (number, before) in [
         (number + 1, before),
@@ -76,8 +75,7 @@ fn wrong_positions(right: Position, bytes: &[u8]) {
         (number + (1 << 40), before),
         (number, before + (1 << 40)),
     ] {
-        let position = Position { number, before };
-        let mut opener = Opener::begin_at(&key(), &PREFIX, CONTEXT, position).unwrap();
+        let mut opener = opener_at(number, before).unwrap();
         assert_eq!(opener.open_next(bytes), Err(Error::Damaged(number)));
     }
 }
@@ -86,55 +84,46 @@ fn wrong_positions(right: Position, bytes: &[u8]) {
 #[test]
 fn positions_at_the_end() {
     let most = hunkravy::MAX_AEAD_BYTES - 4;
-    for (before, error) in [(most, None), (most + 1, Some(Error::StreamTooLong))] {
-        let position = Position { number: 0, before };
-        let begun = Opener::begin_at(&key(), &PREFIX, CONTEXT, position);
-        assert_eq!(begun.map(|_| ()).err(), error);
-    }
-    let position = Position {
-        number: 0,
-        before: most - 37,
-    };
-    let mut opener = Opener::begin_at(&key(), &PREFIX, CONTEXT, position).unwrap();
+    assert!(opener_at(0, most).is_ok());
+    let too_far = Some(Error::StreamTooLong);
+    assert_eq!(opener_at(0, most + 1).err(), too_far);
+    assert_eq!(opener_at(u64::MAX, u64::MAX).err(), too_far);
+    let mut opener = opener_at(0, most - 37).unwrap();
     assert_eq!(opener.open_next(&[0; 38]), Err(Error::Damaged(0)));
-    let position = Position {
-        number: 0,
-        before: most - 36,
-    };
-    let mut opener = Opener::begin_at(&key(), &PREFIX, CONTEXT, position).unwrap();
-    assert_eq!(opener.open_next(&[0; 38]), Err(Error::StreamTooLong));
-    assert_eq!(opener.open_next(&[0; 38]), Err(Error::StreamTooLong));
-    let furthest = Position {
-        number: u64::MAX,
-        before: u64::MAX,
-    };
-    assert_eq!(furthest.offset(), u64::MAX);
-    let begun = Opener::begin_at(&key(), &PREFIX, CONTEXT, furthest);
-    assert_eq!(begun.map(|_| ()), Err(Error::StreamTooLong));
+    let mut opener = opener_at(0, most - 36).unwrap();
+    for _ in 0..2 {
+        assert_eq!(opener.open_next(&[0; 38]), Err(Error::StreamTooLong));
+    }
+    let (number, before) = (u64::MAX, u64::MAX);
+    assert_eq!(Position { number, before }.offset(), u64::MAX);
 }
 
-/// The longest message is sealed and opened. A longer one is not, and changes nothing.
+/// The longest message is sealed and opened. A longer one is not, and changes nothing: another can be the next or the last one.
+/// After the last one there is none.
 #[test]
 fn the_longest_message() {
     let mut sealer = sealer();
-    let mut too_long = record(&vec![7; MAX_MESSAGE_BYTES + 1]);
-    let before = too_long.clone();
-    assert_eq!(
-        sealer.seal_next_in_place(&mut too_long),
-        Err(Error::TooLong)
-    );
-    assert!(too_long == before);
     let mut stream = sealer.header().to_vec();
-    let message = &too_long[5..][..MAX_MESSAGE_BYTES + 1];
-    assert_eq!(sealer.seal_next(message, &mut stream), Err(Error::TooLong));
-    assert_eq!(stream, sealer.header());
+    let mut record = vec![7; RECORD_BYTES + MAX_MESSAGE_BYTES + 1];
+    let message = vec![7; MAX_MESSAGE_BYTES + 1];
+    let too_long = Err(Error::TooLong);
+    assert_eq!(sealer.seal_next(&message, &mut stream), too_long);
+    assert_eq!(sealer.seal_last(&message, &mut stream), too_long);
+    assert_eq!(sealer.seal_next_in_place(&mut record), too_long);
+    assert_eq!(sealer.seal_last_in_place(&mut record), too_long);
+    assert!(stream == sealer.header() && record.iter().all(|byte| *byte == 7));
     sealer.seal_last(&message[1..], &mut stream).unwrap();
+
+    let (length, mut record) = (stream.len(), [7; RECORD_BYTES]);
+    let ended = Err(Error::Ended);
+    assert_eq!(sealer.seal_next(b"more", &mut stream), ended);
+    assert_eq!(sealer.seal_last(b"more", &mut stream), ended);
+    assert_eq!(sealer.seal_next_in_place(&mut record), ended);
+    assert_eq!((stream.len(), record), (length, [7; RECORD_BYTES]));
     let (header, bytes) = stream.split_at_mut(4);
-    let opened = opener(header).open_next_in_place(bytes).map(|opened| {
-        assert!(opened.is_last && opened.rest.is_empty());
-        opened.message == &message[1..]
-    });
-    assert_eq!(opened, Ok(true));
+    let mut opener = opener(header);
+    let opened = opener.open_next_in_place(bytes).unwrap();
+    assert!(opened.is_last && opened.rest.is_empty() && opened.message == &message[1..]);
 }
 
 #[test]
@@ -157,15 +146,13 @@ fn contexts() {
             assert_eq!(opened.is_ok(), opening == sealing);
         }
     }
-    let too_long = [0; MAX_CONTEXT_BYTES + 1];
-    let refused = Err(Error::ContextTooLong);
-    assert_eq!(Sealer::new(&key(), &PREFIX, &too_long).map(|_| ()), refused);
-    assert_eq!(
-        Opener::new(&key(), &PREFIX, &too_long, b"AGR2").map(|_| ()),
-        refused
-    );
-    let begun = Opener::begin_at(&key(), &PREFIX, &too_long, Position::default());
-    assert_eq!(begun.map(|_| ()), refused);
+    let (key, too_long) = (key(), [0; MAX_CONTEXT_BYTES + 1]);
+    let refused = [
+        Sealer::new(&key, &PREFIX, &too_long).err(),
+        Opener::new(&key, &PREFIX, &too_long, b"AGR2").err(),
+        Opener::begin_at(&key, &PREFIX, &too_long, Position::default()).err(),
+    ];
+    assert_eq!(refused, [Some(Error::ContextTooLong); 3]);
 }
 
 /// A stream that was not opened to its end is not finished.
@@ -179,7 +166,7 @@ fn unfinished() {
     assert_eq!(opener.finish(rest), Err(Error::Truncated));
     for header in [&b""[..], b"AGR", b"AGR2\0", b"AGR1"] {
         let begun = Opener::new(&key(), &PREFIX, CONTEXT, header);
-        assert_eq!(begun.map(|_| ()), Err(Error::Header));
+        assert_eq!(begun.err(), Some(Error::Header));
     }
 }
 
@@ -202,67 +189,40 @@ fn moved_stream_keeps_its_context() {
     let rest = openers[0].open_next(&stream).unwrap().rest;
     let mut opener = shared(openers.remove(0));
     assert_eq!(opener.open_next(rest).unwrap().message, b"last");
-    assert_eq!(
-        format!("{opener:?} {:?}", Sealer::new(&key(), &PREFIX, b"")),
-        "Opener { .. } Ok(Sealer { .. })"
-    );
+    assert_eq!(format!("{opener:?}"), "Opener { .. }");
+    assert_eq!(format!("{sealer:?}"), "Sealer { .. }");
 }
 
 /// Each error has its text, and is what an `io::Error` of it holds.
 #[test]
 fn errors() {
-    let texts = [
-        (Error::Header, "not a record stream: the header is wrong"),
-        (Error::Truncated, "the record stream is truncated"),
-        (Error::Flag, "the first byte of a record is neither 0 nor 1"),
-        (Error::TooLong, "a message is longer than 16 MiB"),
-        (
-            Error::Damaged(70),
-            "record 70 is damaged, or the key, prefix or context is wrong",
-        ),
-        (Error::Trailing, "bytes follow the last record"),
-        (
-            Error::StreamTooLong,
-            "the stream is longer than 2^61 - 1 bytes",
-        ),
-        (
-            Error::ContextTooLong,
-            "the context is longer than 65,535 bytes",
-        ),
-        (
-            Error::Ended,
-            "the last message of the record stream was sealed",
-        ),
+    let errors = [
+        Error::Header,
+        Error::Truncated,
+        Error::Flag,
+        Error::TooLong,
+        Error::Damaged(70),
+        Error::Trailing,
+        Error::StreamTooLong,
+        Error::ContextTooLong,
+        Error::Ended,
+        Error::OutOfMemory,
     ];
-    for (error, text) in texts {
-        assert_eq!(error.to_string(), text);
-        assert_eq!(fault_of(&error.into()), error);
+    let texts = "\
+not a record stream: the header is wrong
+the record stream is truncated
+the first byte of a record is neither 0 nor 1
+a message is longer than 16 MiB
+record 70 is damaged, or the key, prefix or context is wrong
+bytes follow the last record
+the stream is longer than 2^61 - 1 bytes
+the context is longer than 65,535 bytes
+the last message of the record stream was sealed
+out of memory";
+    assert_eq!(errors.map(|error| error.to_string()).join("\n"), texts);
+    for error in &errors[..9] {
+        assert_eq!(fault_of(&(*error).into()), *error);
     }
-    assert_eq!(Error::OutOfMemory.to_string(), "out of memory");
     let source: Box<dyn std::error::Error + Send + Sync> = Error::Flag.into();
     assert!(source.source().is_none());
-}
-
-/// A last message that is rejected changes nothing: another can be the last one. After it there is none.
-#[test]
-fn a_last_message_that_is_too_long() {
-    let mut sealer = Sealer::new(&key(), &PREFIX, b"").unwrap();
-    let mut stream = sealer.header().to_vec();
-    let mut record = vec![7; RECORD_BYTES + MAX_MESSAGE_BYTES + 1];
-    assert_eq!(
-        sealer.seal_last(&record[RECORD_BYTES..], &mut stream),
-        Err(Error::TooLong)
-    );
-    assert_eq!(sealer.seal_last_in_place(&mut record), Err(Error::TooLong));
-    assert!(stream == sealer.header() && record.iter().all(|byte| *byte == 7));
-    sealer.seal_last(b"last", &mut stream).unwrap();
-    let mut opener = Opener::new(&key(), &PREFIX, b"", &stream[..4]).unwrap();
-    let opened = opener.open_next(&stream[4..]).unwrap();
-    assert!(opened.message == b"last" && opened.is_last && opened.rest.is_empty());
-    let length = stream.len();
-    assert_eq!(sealer.seal_next(b"more", &mut stream), Err(Error::Ended));
-    assert_eq!(sealer.seal_last(b"more", &mut stream), Err(Error::Ended));
-    let mut record = [7; RECORD_BYTES];
-    assert_eq!(sealer.seal_next_in_place(&mut record), Err(Error::Ended));
-    assert_eq!((stream.len(), record), (length, [7; RECORD_BYTES]));
 }

@@ -1,43 +1,31 @@
 //! Reading at any place.
 
 use crate::random::Random;
-use crate::support::{Failing, PIECE_BYTES, WHOLE_BYTES, fault_of, key, sealed, sealed_in_pieces};
+use crate::support::*;
 use hunkravy::files::SealedReader;
 use hunkravy::records::Error;
+use std::cell::Cell;
 use std::io::{BufRead, Cursor, ErrorKind, Read, Result, Seek, SeekFrom};
 use std::panic::{AssertUnwindSafe, catch_unwind};
 
 const PREFIX: [u8; 24] = [9; 24];
 
-/// Messages of random lengths, some of them empty, and at last one or more empty ones.
-fn messages(random: &mut Random) -> Vec<Vec<u8>> {
-    let count = random.below(12) as usize;
-    let mut messages: Vec<Vec<u8>> = Vec::new();
-    for _ in 0..=count {
-        let most = [1, 40, 3000][random.below(3) as usize];
-        let length = random.below(most) as usize;
-        messages.push(random.bytes(length));
-    }
-    messages
-}
-
-/// A file of contents, in whole pieces or not, and what is in front of it in the inner reader.
+/// Files of contents in whole pieces, and of messages of random lengths, some of them empty.
 fn files(random: &mut Random) -> Vec<(Vec<u8>, Vec<u8>)> {
-    let mut files = Vec::new();
-    for length in [
-        0,
-        1,
-        PIECE_BYTES - 1,
-        PIECE_BYTES,
-        PIECE_BYTES + 1,
-        3 * PIECE_BYTES,
-        150_000,
-    ] {
-        let contents = random.bytes(length);
-        files.push((sealed_in_pieces(&key(), &PREFIX, &contents), contents));
-    }
+    let pieces = [0, 1, PIECE_BYTES - 1, PIECE_BYTES, PIECE_BYTES + 1];
+    let pieces = pieces.into_iter().chain([3 * PIECE_BYTES, 150_000]);
+    let regular = pieces.map(|length| Random(length as u64 + 1).bytes(length));
+    let regular = regular.map(|contents| (sealed_in_pieces(&key(), &PREFIX, &contents), contents));
+    let mut files: Vec<_> = regular.collect();
     for _ in 0..40 {
-        let messages = messages(random);
+        let count = 1 + random.below(12) as usize;
+        let mut length = || [1, 40, 3000][random.below(3) as usize];
+        let mosts: Vec<u64> = (0..count).map(|_| length()).collect();
+        let message = |most: u64| {
+            let length = random.below(most) as usize;
+            random.bytes(length)
+        };
+        let messages: Vec<Vec<u8>> = mosts.into_iter().map(message).collect();
         let slices: Vec<&[u8]> = messages.iter().map(Vec::as_slice).collect();
         files.push((sealed(&key(), &PREFIX, &slices), messages.concat()));
     }
@@ -77,11 +65,8 @@ fn step(random: &mut Random, reader: &mut (impl BufRead + Seek), expected: &mut 
         0 => {
             let to = seek_from(random, length);
             let kind = |result: Result<u64>| result.map_err(|error| error.kind());
-            assert_eq!(
-                kind(reader.seek(to)),
-                kind(expected.seek(to)),
-                "{to:?} {length}"
-            );
+            let (found, expected) = (kind(reader.seek(to)), kind(expected.seek(to)));
+            assert_eq!(found, expected, "{to:?} {length}");
         }
         1 => {
             let count = random.below(200);
@@ -163,37 +148,18 @@ fn before_the_start() {
     }
 }
 
-/// A reader that panics in a call of this number, and counts on.
-struct Panics(Cursor<Vec<u8>>, usize);
-
-impl Panics {
-    fn call(&mut self) {
-        self.1 = self.1.wrapping_sub(1);
-        assert_ne!(self.1, 0, "the inner reader panics");
-    }
-}
-
-impl Read for Panics {
-    fn read(&mut self, buf: &mut [u8]) -> Result<usize> {
-        self.call();
-        self.0.read(buf)
-    }
-}
-
-impl Seek for Panics {
-    fn seek(&mut self, to: SeekFrom) -> Result<u64> {
-        self.call();
-        self.0.seek(to)
-    }
-}
-
 /// After a panic of the inner reader in a seek the place is as it was.
 #[test]
 fn panics_of_seeks() {
     let file = sealed(&key(), &PREFIX, &[b"first", b"second", b"third", b""]);
-    let (mut panics, mut calls) = (0, 1);
-    loop {
-        let mut reader = SealedReader::new(Panics(Cursor::new(file.clone()), calls), &key());
+    let calls = Cell::new(0);
+    for number in 0.. {
+        calls.set(0);
+        let panics = |_| {
+            assert_ne!(calls.replace(calls.get() + 1), number, "a reader panics");
+            Ok(usize::MAX)
+        };
+        let mut reader = SealedReader::new(Before(Cursor::new(&file), panics), &key());
         let sought = catch_unwind(AssertUnwindSafe(|| reader.seek(SeekFrom::End(-7))));
         if let Ok(sought) = sought {
             assert_eq!(sought.unwrap(), 9);
@@ -202,10 +168,8 @@ fn panics_of_seeks() {
         assert_eq!(reader.stream_position().unwrap(), 0);
         assert_eq!(reader.seek(SeekFrom::Start(9)).unwrap(), 9);
         assert_eq!(reader.fill_buf().unwrap(), b"nd");
-        panics += 1;
-        calls += 1;
     }
-    assert!(panics > 20, "{panics}");
+    assert!(calls.get() > 20, "{calls:?}");
 }
 
 /// After an error of the inner reader in a seek the place is as it was, and reading needs another seek.
@@ -221,27 +185,20 @@ fn errors_of_seeks() {
             SeekFrom::End(-10),
             SeekFrom::End(5),
         ] {
-            let mut calls = 0;
-            while seek_fails(&file, &contents, to, calls) {
-                calls += 1;
-            }
-            assert!(calls > 3, "{to:?} {calls}");
+            let calls = (0..).find(|calls| !seek_fails(&file, &contents, to, *calls));
+            assert!(calls > Some(3), "{to:?} {calls:?}");
         }
     }
 }
 
 /// Returns whether the seek fails if its inner call of this number does.
 fn seek_fails(file: &[u8], contents: &[u8], to: SeekFrom, calls: usize) -> bool {
-    let mut reader = SealedReader::new(Failing::after(Cursor::new(file), usize::MAX), &key());
+    let left = Cell::new(usize::MAX);
+    let mut reader = SealedReader::new(Before(Cursor::new(file), failing(&left)), &key());
     let mut first = [0; 10];
     reader.read_exact(&mut first).unwrap();
     assert_eq!(first, contents[..10]);
-    let mut inner = reader.into_inner();
-    inner.left = Some(inner.calls + calls);
-    inner.calls = 0;
-    inner.inner.set_position(0);
-    let mut reader = SealedReader::new(inner, &key());
-    reader.read_exact(&mut first).unwrap();
+    left.set(calls);
     let sought = reader.seek(to);
     if let Err(error) = &sought {
         assert_eq!(error.kind(), ErrorKind::WouldBlock);
@@ -266,21 +223,19 @@ fn seek_fails(file: &[u8], contents: &[u8], to: SeekFrom, calls: usize) -> bool 
     sought.is_err()
 }
 
-/// A reader whose first read of the flag of record 0 says that the record is the last one.
-struct Flips(Cursor<Vec<u8>>, bool);
+/// A reader after whose reads a function is called, with their places and bytes.
+struct After<T, F>(Cursor<T>, F);
 
-impl Read for Flips {
+impl<T: AsRef<[u8]>, F: FnMut(u64, &mut [u8])> Read for After<T, F> {
     fn read(&mut self, buf: &mut [u8]) -> Result<usize> {
-        let is_flag = self.0.position() == 28;
+        let place = self.0.position();
         let count = self.0.read(buf)?;
-        if is_flag && count > 0 && !std::mem::replace(&mut self.1, true) {
-            buf[0] = 1;
-        }
+        (self.1)(place, &mut buf[..count]);
         Ok(count)
     }
 }
 
-impl Seek for Flips {
+impl<T: AsRef<[u8]>, F> Seek for After<T, F> {
     fn seek(&mut self, to: SeekFrom) -> Result<u64> {
         self.0.seek(to)
     }
@@ -291,27 +246,18 @@ impl Seek for Flips {
 fn flags_that_change() {
     let mut file = sealed_in_pieces(&key(), &PREFIX, &[7; 200_000]);
     file.truncate(28 + WHOLE_BYTES);
-    let mut reader = SealedReader::new(Flips(Cursor::new(file), false), &key());
+    let mut is_flipped = false;
+    // The first read of the flag of record 0 says that the record is the last one.
+    let flip = |place, bytes: &mut [u8]| {
+        if place == 28 && !bytes.is_empty() && !is_flipped {
+            bytes[0] = 1;
+            is_flipped = true;
+        }
+    };
+    let mut reader = SealedReader::new(After(Cursor::new(file), flip), &key());
     let error = reader.seek(SeekFrom::End(0)).unwrap_err();
     assert_eq!(error.kind(), ErrorKind::InvalidData);
     assert!(reader.read(&mut [0]).is_err());
-}
-
-/// Counts the bytes that are read.
-struct Counted<'a>(Cursor<&'a [u8]>, usize);
-
-impl Read for Counted<'_> {
-    fn read(&mut self, buf: &mut [u8]) -> Result<usize> {
-        let count = self.0.read(buf)?;
-        self.1 += count;
-        Ok(count)
-    }
-}
-
-impl Seek for Counted<'_> {
-    fn seek(&mut self, to: SeekFrom) -> Result<u64> {
-        self.0.seek(to)
-    }
 }
 
 /// In a file of whole pieces only the record is read that has the place, or the last one.
@@ -319,35 +265,36 @@ impl Seek for Counted<'_> {
 fn only_what_is_needed_is_read() {
     let contents = Random(4).bytes(40 * PIECE_BYTES + 9);
     let file = sealed_in_pieces(&key(), &PREFIX, &contents);
+    let bytes = [&[0x41; 9], &file[..]].concat();
+    let (whole, end) = (40 * 65_536, 40 * 65_536 + 9);
     for (to, place, most) in [
         (
             SeekFrom::Start(30 * 65_536 + 5),
             30 * 65_536 + 5,
             28 + WHOLE_BYTES,
         ),
-        (SeekFrom::Start(40 * 65_536), 40 * 65_536, 28 + 46),
-        (
-            SeekFrom::Start(contents.len() as u64),
-            contents.len(),
-            28 + 37,
-        ),
+        (SeekFrom::Start(whole), 40 * 65_536, 28 + 46),
+        (SeekFrom::Start(end), contents.len(), 28 + 37),
         (SeekFrom::End(0), contents.len(), 28 + 37),
         (SeekFrom::End(-9), 40 * 65_536, 28 + 37 + 46),
     ] {
-        let bytes = [&[0x41; 9], &file[..]].concat();
-        let mut inner = Counted(Cursor::new(&bytes), 0);
-        inner.0.set_position(9);
-        let mut reader = SealedReader::new(inner, &key());
+        let count = Cell::new(0);
+        let mut inner = Cursor::new(&bytes);
+        inner.set_position(9);
+        let counted = After(inner, |_, bytes: &mut [u8]| {
+            count.set(count.get() + bytes.len())
+        });
+        let mut reader = SealedReader::new(counted, &key());
         assert_eq!(reader.seek(to).unwrap(), place as u64);
-        assert!(reader.get_ref().1 <= most, "{to:?} {}", reader.get_ref().1);
-        let bytes = reader.fill_buf().unwrap();
-        let count = bytes.len();
-        assert!(*bytes == contents[place..][..count]);
+        assert!(count.get() <= most, "{to:?} {count:?}");
+        let read = reader.fill_buf().unwrap().to_vec();
+        assert!(read == contents[place..][..read.len()]);
         // What is here is not read again.
-        let read = reader.get_ref().1;
-        reader.seek(SeekFrom::Current(count.min(3) as i64)).unwrap();
+        let before = count.get();
+        let back = read.len().min(3) as i64;
+        reader.seek(SeekFrom::Current(back)).unwrap();
         reader.seek(SeekFrom::Start(place as u64)).unwrap();
-        assert_eq!(reader.get_ref().1, read);
+        assert_eq!(count.get(), before);
     }
 }
 
@@ -358,11 +305,15 @@ fn zeros() {
     file.truncate(28 + 42);
     file.resize(1 << 20, 0);
     for to in [SeekFrom::End(0), SeekFrom::Start(5)] {
-        let mut reader = SealedReader::new(Counted(Cursor::new(&file), 0), &key());
+        let mut count = 0;
+        let counted = After(Cursor::new(&file), |_, bytes: &mut [u8]| {
+            count += bytes.len()
+        });
+        let mut reader = SealedReader::new(counted, &key());
         let fault = fault_of(&reader.seek(to).unwrap_err());
         assert_eq!(fault, Error::Damaged(1));
-        let read = reader.get_ref().1;
-        assert!(read < 2 * WHOLE_BYTES, "{to:?} {read}");
+        drop(reader);
+        assert!(count < 2 * WHOLE_BYTES, "{to:?} {count}");
     }
 }
 

@@ -1,6 +1,7 @@
 //! What the tests share: the stored files, and readers and writers that are slow or fail.
 
 use hunkravy::records::{Error, HEADER_BYTES, Prefix, Sealer};
+use std::cell::Cell;
 use std::fs;
 use std::io::{self, ErrorKind, Read, Seek, SeekFrom, Write};
 use std::path::PathBuf;
@@ -100,10 +101,8 @@ impl Damaged {
 }
 
 fn unhex(digits: &str) -> Vec<u8> {
-    let pairs = (0..digits.len()).step_by(2);
-    pairs
-        .map(|place| u8::from_str_radix(&digits[place..place + 2], 16).unwrap())
-        .collect()
+    let byte = |place| u8::from_str_radix(&digits[place..place + 2], 16).unwrap();
+    (0..digits.len()).step_by(2).map(byte).collect()
 }
 
 /// Returns the sealed file that has these messages in its records.
@@ -133,111 +132,60 @@ pub fn fault_of(error: &io::Error) -> Error {
     *inner.downcast_ref().expect("it is a fault of a stream")
 }
 
-/// A reader or a writer of at most so many bytes a call, before each of which it is interrupted.
-pub struct Slow<I> {
-    pub inner: I,
-    pub most: usize,
-    is_ready: bool,
+/// A call of a reader or a writer.
+#[derive(Clone, Copy, PartialEq)]
+pub enum Call {
+    Read,
+    Seek,
+    Write,
+    Flush,
 }
 
-impl<I> Slow<I> {
-    pub fn new(inner: I, most: usize) -> Self {
-        let is_ready = false;
-        Slow {
-            inner,
-            most,
-            is_ready,
-        }
-    }
+/// A reader or a writer before whose calls a function is called. It returns how many bytes are read or written at most, or an error.
+pub struct Before<I, F>(pub I, pub F);
 
-    fn wait(&mut self) -> io::Result<()> {
-        self.is_ready = !self.is_ready;
-        if self.is_ready {
-            return Err(ErrorKind::Interrupted.into());
-        }
-        Ok(())
-    }
-}
-
-impl<I: Read> Read for Slow<I> {
+impl<I: Read, F: FnMut(Call) -> io::Result<usize>> Read for Before<I, F> {
     fn read(&mut self, buf: &mut [u8]) -> io::Result<usize> {
-        self.wait()?;
-        let count = buf.len().min(self.most);
-        self.inner.read(&mut buf[..count])
+        let count = buf.len().min((self.1)(Call::Read)?);
+        self.0.read(&mut buf[..count])
     }
 }
 
-impl<I: Seek> Seek for Slow<I> {
+impl<I: Seek, F: FnMut(Call) -> io::Result<usize>> Seek for Before<I, F> {
     fn seek(&mut self, to: SeekFrom) -> io::Result<u64> {
-        self.inner.seek(to)
+        (self.1)(Call::Seek)?;
+        self.0.seek(to)
     }
 }
 
-impl<I: Write> Write for Slow<I> {
+impl<I: Write, F: FnMut(Call) -> io::Result<usize>> Write for Before<I, F> {
     fn write(&mut self, data: &[u8]) -> io::Result<usize> {
-        self.wait()?;
-        self.inner.write(&data[..data.len().min(self.most)])
+        let count = data.len().min((self.1)(Call::Write)?);
+        self.0.write(&data[..count])
     }
 
     fn flush(&mut self) -> io::Result<()> {
-        self.inner.flush()
+        (self.1)(Call::Flush)?;
+        self.0.flush()
     }
 }
 
-/// A reader or a writer that fails once, after so many calls. The calls are counted on.
-pub struct Failing<I> {
-    pub inner: I,
-    pub left: Option<usize>,
-    pub calls: usize,
-}
-
-impl<I> Failing<I> {
-    pub fn after(inner: I, calls: usize) -> Self {
-        Failing {
-            inner,
-            left: Some(calls),
-            calls: 0,
-        }
-    }
-
-    fn call(&mut self) -> io::Result<()> {
-        self.calls += 1;
-        match self.left {
-            Some(0) => {
-                self.left = None;
-                Err(ErrorKind::WouldBlock.into())
-            }
-            Some(left) => {
-                self.left = Some(left - 1);
-                Ok(())
-            }
-            None => Ok(()),
+/// Lets at most so many bytes be read or written in a call, and interrupts every other call.
+pub fn slow(most: usize) -> impl FnMut(Call) -> io::Result<usize> {
+    let mut is_ready = true;
+    move |call| {
+        is_ready = !is_ready || call == Call::Flush;
+        match is_ready {
+            true => Ok(most),
+            false => Err(ErrorKind::Interrupted.into()),
         }
     }
 }
 
-impl<I: Read> Read for Failing<I> {
-    fn read(&mut self, buf: &mut [u8]) -> io::Result<usize> {
-        self.call()?;
-        self.inner.read(buf)
-    }
-}
-
-impl<I: Seek> Seek for Failing<I> {
-    fn seek(&mut self, to: SeekFrom) -> io::Result<u64> {
-        self.call()?;
-        self.inner.seek(to)
-    }
-}
-
-impl<I: Write> Write for Failing<I> {
-    fn write(&mut self, data: &[u8]) -> io::Result<usize> {
-        self.call()?;
-        self.inner.write(data)
-    }
-
-    fn flush(&mut self) -> io::Result<()> {
-        self.call()?;
-        self.inner.flush()
+/// Refuses one call, after so many others.
+pub fn failing(left: &Cell<usize>) -> impl FnMut(Call) -> io::Result<usize> {
+    move |_| match left.replace(left.get().wrapping_sub(1)) {
+        0 => Err(ErrorKind::WouldBlock.into()),
+        _ => Ok(usize::MAX),
     }
 }

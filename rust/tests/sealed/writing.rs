@@ -1,56 +1,42 @@
 //! Sealed files that are written.
 
 use crate::random::Random;
-use crate::support::{
-    Failing, PIECE_BYTES, Slow, WHOLE_BYTES, fault_of, key, sealed, sealed_in_pieces,
-};
+use crate::support::*;
 use hunkravy::files::{SealedReader, SealedWriter};
 use hunkravy::records::{Error, MAX_MESSAGE_BYTES};
+use std::cell::Cell;
+use std::collections::HashSet;
 use std::io::{self, BufRead, ErrorKind, Read, Write};
 use std::panic::{AssertUnwindSafe, catch_unwind};
 use std::process::Command;
-
-const LENGTHS: [usize; 8] = [
-    0,
-    1,
-    1000,
-    PIECE_BYTES - 1,
-    PIECE_BYTES,
-    PIECE_BYTES + 1,
-    2 * PIECE_BYTES,
-    200_000,
-];
 
 /// A file is cut into pieces as the program cuts it, whatever is written at a time.
 #[test]
 fn written_in_any_lengths() {
     let contents = Random(1).bytes(200_000);
-    let mut prefixes = Vec::new();
-    for length in LENGTHS {
-        for most in [1, 999, PIECE_BYTES, usize::MAX] {
-            if most == 1 && length > PIECE_BYTES + 1 {
-                continue;
-            }
-            let mut writer = SealedWriter::new(Slow::new(Vec::new(), 50_000), &key()).unwrap();
-            for chunk in contents[..length].chunks(most.min(200_000)) {
+    let mut prefixes = HashSet::new();
+    let around = [
+        PIECE_BYTES - 1,
+        PIECE_BYTES,
+        PIECE_BYTES + 1,
+        2 * PIECE_BYTES,
+    ];
+    for length in [0, 1, 1000, 200_000].into_iter().chain(around) {
+        for most in [1, 999, PIECE_BYTES, 200_000] {
+            let inner = Before(Vec::new(), slow(50_000));
+            let mut writer = SealedWriter::new(inner, &key()).unwrap();
+            for chunk in contents[..length].chunks(most) {
                 writer.write_all(chunk).unwrap();
                 assert_eq!(writer.write(&[]).unwrap(), 0);
             }
-            let file = writer.finish().unwrap().inner;
+            let file = writer.finish().unwrap().0;
             let prefix = *file.first_chunk().unwrap();
             assert!(file == sealed_in_pieces(&key(), &prefix, &contents[..length]));
             assert_eq!(file.len(), length + 37 * length.div_ceil(PIECE_BYTES) + 65);
             assert!(read(&file).unwrap() == contents[..length]);
-            prefixes.push(prefix);
+            assert!(prefixes.insert(prefix), "a prefix is used twice");
         }
     }
-    prefixes.sort();
-    prefixes.dedup();
-    assert_eq!(
-        prefixes.len(),
-        4 * LENGTHS.len() - 2,
-        "no prefix is used twice"
-    );
 }
 
 /// This test runs itself again: the prefixes of other processes differ from each other.
@@ -59,22 +45,16 @@ fn prefixes_of_other_processes() {
     const VARIABLE: &str = "HUNKRAVY_SHOWS_PREFIX";
     let writer = SealedWriter::new(Vec::new(), &key()).unwrap();
     if std::env::var_os(VARIABLE).is_some() {
-        println!("prefix {:?}", &writer.get_ref()[..24]);
+        eprintln!("{:?}", &writer.get_ref()[..24]);
         return;
     }
     let shown = || {
         let mut test = Command::new(std::env::current_exe().unwrap());
-        test.args([
-            "--exact",
-            "writing::prefixes_of_other_processes",
-            "--nocapture",
-        ]);
-        let output = test.env(VARIABLE, "1").output().unwrap();
-        let text = String::from_utf8(output.stdout).unwrap();
-        let (_, prefix) = text.split_once("prefix ").unwrap();
-        prefix.split_once(']').unwrap().0.to_owned()
+        test.args(["writing::prefixes_of_other_processes", "--nocapture"]);
+        test.env(VARIABLE, "1").output().unwrap().stderr
     };
-    assert_ne!(shown(), shown());
+    let first = shown();
+    assert!(first.len() > 50 && first != shown());
 }
 
 /// A reader that returns too large a count.
@@ -122,24 +102,19 @@ fn written_before_the_end() {
 #[test]
 fn writers_that_fail() {
     let contents = vec![5; 2 * PIECE_BYTES + 10];
-    let write = |inner| -> (Vec<u8>, io::Result<()>) {
-        let mut file = Failing::after(Slow::new(Vec::new(), 30_000), inner);
-        let written = written(&mut file, &contents);
-        (file.inner.inner, written)
+    let write = |calls| {
+        let (mut file, left) = (Vec::new(), Cell::new(calls));
+        let mut inner = Before(Before(&mut file, slow(30_000)), failing(&left));
+        let written = written(&mut inner, &contents);
+        (file, written)
     };
     let (whole, written) = write(usize::MAX);
     assert!(written.is_ok() && read(&whole).unwrap() == contents);
     let mut calls = 0;
-    loop {
-        let (file, written) = write(calls);
-        if written.is_ok() {
-            assert_eq!(file.len(), whole.len());
-            break;
-        }
-        assert_eq!(written.unwrap_err().kind(), ErrorKind::WouldBlock);
+    while let (file, Err(error)) = write(calls) {
+        assert_eq!(error.kind(), ErrorKind::WouldBlock);
         // A flush that fails is the last call.
-        let is_whole = file.len() == whole.len();
-        assert_eq!(read(&file).is_ok(), is_whole);
+        assert_eq!(read(&file).is_ok(), file.len() == whole.len());
         calls += 1;
     }
     assert!(calls > 10, "{calls}");
@@ -153,108 +128,71 @@ fn written(file: &mut impl Write, contents: &[u8]) -> io::Result<()> {
             // Only a flush leaves the writer as it was.
             return Err(error);
         }
-        assert_eq!(writer.write(&[]).unwrap_err().kind(), ErrorKind::Other);
-        assert_eq!(writer.flush().unwrap_err().kind(), ErrorKind::Other);
-        assert_eq!(
-            writer.finish().map(|_| ()).unwrap_err().kind(),
-            ErrorKind::Other
-        );
+        let results = [
+            writer.write(&[]).map(drop),
+            writer.flush(),
+            writer.finish().map(drop),
+        ];
+        for result in results {
+            assert_eq!(result.unwrap_err().kind(), ErrorKind::Other);
+        }
         return Err(error);
     }
-    writer.finish().map(|_| ())
-}
-
-/// Cannot be flushed.
-struct Unflushed(Vec<u8>);
-
-impl Write for Unflushed {
-    fn write(&mut self, data: &[u8]) -> io::Result<usize> {
-        self.0.write(data)
-    }
-
-    fn flush(&mut self) -> io::Result<()> {
-        Err(ErrorKind::StorageFull.into())
-    }
+    writer.finish().map(drop)
 }
 
 /// The inner writer is flushed at the end, after everything is written.
 #[test]
 fn writers_that_cannot_be_flushed() {
-    let mut file = Unflushed(Vec::new());
-    let mut writer = SealedWriter::new(&mut file, &key()).unwrap();
+    let mut file = Vec::new();
+    let refuse = |call| match call {
+        Call::Flush => Err(ErrorKind::StorageFull.into()),
+        _ => Ok(usize::MAX),
+    };
+    let mut writer = SealedWriter::new(Before(&mut file, refuse), &key()).unwrap();
     writer.write_all(b"contents").unwrap();
     assert_eq!(writer.flush().unwrap_err().kind(), ErrorKind::StorageFull);
-    let finished = writer.finish().map(|_| ());
+    let finished = writer.finish().map(drop);
     assert_eq!(finished.unwrap_err().kind(), ErrorKind::StorageFull);
-    assert_eq!(read(&file.0).unwrap(), b"contents");
-}
-
-/// Takes no more than so many bytes.
-struct Full(usize);
-
-impl Write for Full {
-    fn write(&mut self, data: &[u8]) -> io::Result<usize> {
-        let count = data.len().min(self.0);
-        self.0 -= count;
-        Ok(count)
-    }
-
-    fn flush(&mut self) -> io::Result<()> {
-        Ok(())
-    }
+    assert_eq!(read(&file).unwrap(), b"contents");
 }
 
 #[test]
 fn writers_that_are_full() {
     for room in [0, 27, 28, 28 + 36, 28 + 38 + 36] {
-        let writer = SealedWriter::new(Full(room), &key());
+        let mut room = vec![0; room];
+        let writer = SealedWriter::new(&mut room[..], &key());
         let written = writer.and_then(|mut writer| {
             writer.write_all(&[1])?;
-            writer.finish().map(|_| ())
+            writer.finish().map(drop)
         });
         assert_eq!(written.unwrap_err().kind(), ErrorKind::WriteZero);
-    }
-}
-
-/// Panics when it is written to for the second time.
-struct Panicking(bool);
-
-impl Write for Panicking {
-    fn write(&mut self, data: &[u8]) -> io::Result<usize> {
-        assert!(!std::mem::replace(&mut self.0, true), "a writer panics");
-        Ok(data.len())
-    }
-
-    fn flush(&mut self) -> io::Result<()> {
-        Ok(())
     }
 }
 
 /// After a panic in the middle of a record no other is written.
 #[test]
 fn writers_that_panic() {
-    let mut writer = SealedWriter::new(Panicking(false), &key()).unwrap();
+    let mut calls = 0;
+    let panics = |_| {
+        calls += 1;
+        assert_ne!(calls, 2, "a writer panics");
+        Ok(usize::MAX)
+    };
+    let mut writer = SealedWriter::new(Before(Vec::new(), panics), &key()).unwrap();
     let write = AssertUnwindSafe(|| writer.write_all(&[1; PIECE_BYTES]));
     assert!(catch_unwind(write).is_err());
-    assert_eq!(writer.write(&[1]).unwrap_err().kind(), ErrorKind::Other);
-    assert_eq!(
-        writer.finish().map(|_| ()).unwrap_err().kind(),
-        ErrorKind::Other
-    );
+    for result in [writer.write(&[1]).map(drop), writer.finish().map(drop)] {
+        assert_eq!(result.unwrap_err().kind(), ErrorKind::Other);
+    }
 }
 
 /// Records of any lengths open, up to the longest.
 #[test]
 fn records_of_any_lengths() {
     let longest = vec![3; MAX_MESSAGE_BYTES];
-    let messages = [
-        &[1; 70_000][..],
-        &[],
-        &[2; 200_000],
-        &longest,
-        &[4; 5],
-        &[5],
-    ];
+    let lengths = [70_000, 0, 200_000, MAX_MESSAGE_BYTES, 5, 1];
+    let messages: [&[u8]; 6] = lengths.map(|length| &longest[..length]);
     let file = sealed(&key(), &[9; 24], &messages);
     assert!(read(&file).unwrap() == messages.concat());
     let mut reader = SealedReader::new(&file[..], &key());
