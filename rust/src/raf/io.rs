@@ -6,7 +6,7 @@ use crate::memory::{check_memory, zeros};
 use alloc::vec::Vec;
 use std::ffi::{OsStr, OsString};
 use std::fs::{self, File, Metadata, OpenOptions, Permissions};
-use std::io;
+use std::io::{self, Read};
 use std::os::unix::ffi::OsStrExt;
 use std::os::unix::fs::{FileExt, MetadataExt, OpenOptionsExt, PermissionsExt, fchown};
 use std::path::{Path, PathBuf};
@@ -239,7 +239,7 @@ impl RafIo for FileIo {
         let size = self.get_size()?;
         let reserved = match take_room(&self.file, from, end) {
             Ok(false) => write_zeros(&self.file, from, end),
-            other => other.map(|_| ()),
+            other => other.map(drop),
         };
         if reserved.is_err() {
             let _ = self.file.set_len(size);
@@ -323,11 +323,7 @@ impl RafIo for NoJournal {
     }
 
     fn read_at(&mut self, buf: &mut [u8], _offset: u64) -> io::Result<()> {
-        if buf.is_empty() {
-            Ok(())
-        } else {
-            Err(io::ErrorKind::UnexpectedEof.into())
-        }
+        (&[][..]).read_exact(buf)
     }
 
     fn write_at(&mut self, _data: &[u8], _offset: u64) -> io::Result<()> {
@@ -383,10 +379,7 @@ impl JournalFile {
 
     /// Opens the file, or returns `None` if there is none and none is to be made.
     fn open(&mut self, create: bool) -> io::Result<Option<&mut File>> {
-        let Some(path) = &self.path else {
-            return Ok(None);
-        };
-        if self.file.is_none() {
+        if let (Some(path), None) = (&self.path, &self.file) {
             self.file = match left_at(path, create)? {
                 Some(found) => Some(open_same(path, &found)?),
                 None if create => Some(new_journal(path)?),
@@ -407,10 +400,9 @@ fn options() -> OpenOptions {
 /// Opens the file that was found at a path.
 fn open_same(path: &Path, found: &Metadata) -> io::Result<File> {
     let file = options().open(path)?;
-    if is_same(&file.metadata()?, found) {
-        Ok(file)
-    } else {
-        Err(no_journal())
+    match is_same(&file.metadata()?, found) {
+        true => Ok(file),
+        false => Err(no_journal()),
     }
 }
 
@@ -419,7 +411,12 @@ fn open_same(path: &Path, found: &Metadata) -> io::Result<File> {
 /// owner and its mode, so it counts as none.
 fn journal_at(path: &Path) -> io::Result<Option<Metadata>> {
     match found_at(path)? {
-        Some(found) if !is_empty(&found) => checked(path, found).map(Some),
+        Some(found) if !is_empty(&found) => {
+            let of = found_at(file_of(path))?;
+            let is_safe = of.is_none_or(|of| is_as_safe(&found, &of));
+            let is_journal = found.is_file() && found.nlink() == 1 && is_safe;
+            is_journal.then_some(Some(found)).ok_or_else(no_journal)
+        }
         _ => Ok(None),
     }
 }
@@ -427,24 +424,15 @@ fn journal_at(path: &Path) -> io::Result<Option<Metadata>> {
 /// Removes an empty journal, and returns what is then at the path. If `create` is set, an empty journal that cannot be removed
 /// is an error, because its owner could write it. The file of the journal must be locked.
 fn left_at(path: &Path, create: bool) -> io::Result<Option<Metadata>> {
-    match found_at(path)? {
-        Some(found) if is_empty(&found) => match fs::remove_file(path) {
-            Err(error) if create => Err(error),
-            _ => Ok(None),
-        },
-        Some(found) => checked(path, found).map(Some),
-        None => Ok(None),
+    if found_at(path)?.is_some_and(|found| is_empty(&found)) {
+        let removed = fs::remove_file(path);
+        return if create {
+            removed.map(|()| None)
+        } else {
+            Ok(None)
+        };
     }
-}
-
-/// Returns what was found at the path of a journal if it is one that is safe to use.
-fn checked(path: &Path, found: Metadata) -> io::Result<Metadata> {
-    let of = found_at(file_of(path))?;
-    if found.is_file() && found.nlink() == 1 && of.is_none_or(|of| is_as_safe(&found, &of)) {
-        Ok(found)
-    } else {
-        Err(no_journal())
-    }
+    journal_at(path)
 }
 
 fn is_empty(found: &Metadata) -> bool {
@@ -453,9 +441,7 @@ fn is_empty(found: &Metadata) -> bool {
 
 /// The path of the file that a journal is of: without its last extension. No memory is taken.
 fn file_of(journal: &Path) -> &Path {
-    let extension = journal
-        .extension()
-        .map_or(0, |extension| 1 + extension.len());
+    let extension = journal.extension().map_or(0, |name| 1 + name.len());
     let bytes = journal.as_os_str().as_bytes();
     Path::new(OsStr::from_bytes(&bytes[..bytes.len() - extension]))
 }
@@ -495,20 +481,18 @@ fn new_journal(path: &Path) -> io::Result<File> {
     }
     let mode = mode_beside(of.mode(), file.metadata()?.gid() == of.gid());
     let _ = file.set_permissions(Permissions::from_mode(mode));
-    if is_as_safe(&file.metadata()?, &of) {
-        Ok(file)
-    } else {
+    if !is_as_safe(&file.metadata()?, &of) {
         let _ = fs::remove_file(path);
-        Err(no_journal())
+        return Err(no_journal());
     }
+    Ok(file)
 }
 
 /// The mode of the journal of a file of this mode. A journal in another group gives its group the rights of all others.
 fn mode_beside(of: u32, is_of_its_group: bool) -> u32 {
-    let group = if is_of_its_group {
-        of & GROUP
-    } else {
-        others(of) << 3
+    let group = match is_of_its_group {
+        true => of & GROUP,
+        false => others(of) << 3,
     };
     OWNER | group | others(of)
 }
@@ -578,16 +562,13 @@ impl RafIo for JournalFile {
     fn read_at(&mut self, buf: &mut [u8], offset: u64) -> io::Result<()> {
         match self.open(false)? {
             Some(file) => file.read_exact_at(buf, offset),
-            None if buf.is_empty() => Ok(()),
-            None => Err(io::ErrorKind::UnexpectedEof.into()),
+            None => NoJournal.read_at(buf, offset),
         }
     }
 
     fn write_at(&mut self, data: &[u8], offset: u64) -> io::Result<()> {
-        match self.open(true)? {
-            Some(file) => file.write_all_at(data, offset),
-            None => Ok(()),
-        }
+        let file = self.open(true)?;
+        file.map_or(Ok(()), |file| file.write_all_at(data, offset))
     }
 
     fn get_size(&mut self) -> io::Result<u64> {
@@ -601,19 +582,15 @@ impl RafIo for JournalFile {
     /// Truncates no file that was not opened before.
     fn set_size(&mut self, size: u64) -> io::Result<()> {
         if let (Some(path), None, 0) = (&self.path, &self.file, size) {
-            return left_at(path, false).map(|_| ());
+            return left_at(path, false).map(drop);
         }
-        match self.open(true)? {
-            Some(file) => file.set_len(size),
-            None => Ok(()),
-        }
+        let file = self.open(true)?;
+        file.map_or(Ok(()), |file| file.set_len(size))
     }
 
     fn forget(&mut self) -> io::Result<()> {
-        match self.open(false)? {
-            Some(file) => forget(file),
-            None => Ok(()),
-        }
+        let file = self.open(false)?;
+        file.map_or(Ok(()), |file| forget(file))
     }
 
     /// Makes the journal, which is empty unless another file has its name. An error if there can be none, or its name cannot be
@@ -691,18 +668,37 @@ pub(super) fn read_all(io: &mut impl RafIo) -> io::Result<Vec<u8>> {
 }
 
 #[cfg(test)]
-mod tests {
-    use super::{FileIo, JournalFile, RafIo, mode_beside, new_journal, open_same};
-    use super::{sync_folder, with_journal, write_zeros};
+pub mod tests {
+    use super::*;
     use alloc::{format, vec};
-    use std::fs::{self, File, Permissions};
-    use std::os::unix::fs::{MetadataExt, PermissionsExt, chown, symlink};
-    use std::path::Path;
+    use std::os::unix::fs::{chown, symlink};
+
+    /// The paths of a file and of its journal, where nothing is left.
+    pub struct Paths(pub PathBuf, PathBuf);
+
+    impl Paths {
+        pub fn new(name: &str) -> Self {
+            let name = format!("hunkravy-{name}-{}", std::process::id());
+            let path = std::env::temp_dir().join(name);
+            let journal = with_journal(&path);
+            Paths(path, journal)
+        }
+    }
+
+    impl Drop for Paths {
+        fn drop(&mut self) {
+            let _ = fs::remove_file(&self.0);
+            let _ = fs::remove_file(&self.1);
+        }
+    }
+
+    fn set_mode(path: &Path, mode: u32) {
+        fs::set_permissions(path, Permissions::from_mode(mode)).unwrap();
+    }
 
     /// A device, which the system can neither sync nor cut: so each of these calls reaches the system.
     fn device() -> File {
-        let mut options = File::options();
-        options.read(true).write(true).open("/dev/null").unwrap()
+        options().open("/dev/null").unwrap()
     }
 
     #[test]
@@ -724,26 +720,23 @@ mod tests {
     /// A process keeps its lock when a copy of it in another process is dropped.
     #[test]
     fn locks_of_another_process() {
-        let path = std::env::temp_dir().join(format!("hunkravy-locks-{}", std::process::id()));
-        let mut io = FileIo::create(&path).unwrap();
+        let Paths(path, _) = &Paths::new("locks");
+        let mut io = FileIo::create(path).unwrap();
         io.lock().unwrap();
         let in_this_one = io.file.try_clone().unwrap();
         io.owner = None;
         drop(io);
-        let mut other = FileIo::open(&path).unwrap();
+        let mut other = FileIo::open(path).unwrap();
         assert!(other.lock().is_err());
         drop(in_this_one);
         assert!(other.lock().is_ok());
-        fs::remove_file(&path).unwrap();
     }
 
-    /// A journal gets the mode and the owner of its file. It is rejected if others may write it, or if another user owns it.
+    /// A journal gets the mode, the owner and the group of its file. It is rejected if others may write it, or if another user owns it.
     #[test]
     fn modes() {
-        let path = std::env::temp_dir().join(format!("hunkravy-modes-{}", std::process::id()));
-        let at = with_journal(&path);
-        let open = |create| JournalFile::at(Some(at.clone())).open(create).map(|_| ());
-        let set = |mode| fs::set_permissions(&at, Permissions::from_mode(mode)).unwrap();
+        let Paths(path, at) = &Paths::new("modes");
+        let open = |create| JournalFile::at(Some(at.clone())).open(create).map(drop);
         for (mode, own) in [
             (0o600, 0o600),
             (0o644, 0o644),
@@ -751,71 +744,47 @@ mod tests {
             (0o666, 0o666),
             (0o606, 0o600),
         ] {
-            let file = File::create(&path).unwrap();
-            file.set_permissions(Permissions::from_mode(mode)).unwrap();
-            // Only root can give files to another user.
-            let _ = chown(&path, Some(65533), None);
+            File::create(path).unwrap();
+            set_mode(path, mode);
+            // Only root can give files to another user, or to a group that it is not in.
+            let _ = chown(path, Some(65533), Some(65533));
             open(true).unwrap();
-            fs::write(&at, [1]).unwrap();
+            fs::write(at, [1]).unwrap();
             let (made, of) = (at.metadata().unwrap(), path.metadata().unwrap());
             assert_eq!((made.mode() & 0o777, made.uid()), (own, of.uid()));
+            assert_eq!(made.gid(), of.gid());
             open(false).unwrap();
-            let all_may = own & 0o002 != 0;
-            let group_may = own & 0o020 != 0;
+            let (all_may, group_may) = (own & OTHERS_WRITE != 0, own & GROUP_WRITES != 0);
             for (other, is_safe) in [(0o602, all_may), (0o620, group_may)] {
-                set(other);
+                set_mode(at, other);
                 assert_eq!(open(false).is_ok(), is_safe, "{mode:o} {other:o}");
             }
-            set(0o600);
+            set_mode(at, 0o600);
             for (user, is_safe) in [(65532, group_may), (0, true)] {
-                if chown(&at, Some(user), None).is_ok() {
+                if chown(at, Some(user), None).is_ok() {
                     assert_eq!(open(false).is_ok(), is_safe, "{mode:o} {user}");
                 }
             }
-            fs::remove_file(&at).unwrap();
+            fs::remove_file(at).unwrap();
         }
-        fs::remove_file(&path).unwrap();
     }
 
     /// A new journal is for its owner alone until it has the mode of its file. It takes no other file and follows no link. Opening
     /// rejects any other file than was found.
     #[test]
     fn new_journals() {
-        let path = std::env::temp_dir().join(format!("hunkravy-new-{}", std::process::id()));
-        let (at, other) = (with_journal(&path), path.with_extension("other"));
-        let made = new_journal(&at).unwrap().metadata().unwrap();
-        assert_eq!(
-            made.mode() & 0o777,
-            0o600,
-            "there is no file whose mode it gets"
-        );
-        assert!(new_journal(&at).is_err());
-        fs::write(&other, "another").unwrap();
-        let found = fs::symlink_metadata(&at).unwrap();
-        assert!(open_same(&at, &found).is_ok() && open_same(&other, &found).is_err());
-        fs::remove_file(&at).unwrap();
-        fs::remove_file(&other).unwrap();
-        symlink(&other, &at).unwrap();
-        assert!(new_journal(&at).is_err() && !other.exists());
-        fs::remove_file(&at).unwrap();
-    }
-
-    /// The mode of a journal is that for the group that it gets.
-    #[test]
-    fn a_mode_in_the_group_of_the_file() {
-        let path = std::env::temp_dir().join(format!("hunkravy-groups-{}", std::process::id()));
-        let at = with_journal(&path);
-        let file = File::create(&path).unwrap();
-        file.set_permissions(Permissions::from_mode(0o660)).unwrap();
-        // Only root can give files to a group that it is not in.
-        let is_given = chown(&path, None, Some(65533)).is_ok();
-        let made = JournalFile::at(Some(at.clone())).open(true).map(|_| ());
-        made.unwrap();
-        let (journal, of) = (at.metadata().unwrap(), path.metadata().unwrap());
-        assert_eq!(of.gid() == 65533, is_given);
-        assert_eq!((journal.mode() & 0o777, journal.gid()), (0o660, of.gid()));
-        fs::remove_file(&at).unwrap();
-        fs::remove_file(&path).unwrap();
+        let Paths(path, at) = &Paths::new("new");
+        let made = new_journal(at).unwrap().metadata().unwrap();
+        // There is no file whose mode it gets.
+        assert_eq!(made.mode() & 0o777, 0o600);
+        assert!(new_journal(at).is_err());
+        fs::write(path, "another").unwrap();
+        let found = fs::symlink_metadata(at).unwrap();
+        assert!(open_same(at, &found).is_ok() && open_same(path, &found).is_err());
+        fs::remove_file(at).unwrap();
+        fs::remove_file(path).unwrap();
+        symlink(path, at).unwrap();
+        assert!(new_journal(at).is_err() && !path.exists());
     }
 
     #[test]
@@ -837,32 +806,32 @@ mod tests {
     /// Zeros are written in the place of room that a file system cannot take, and nowhere else.
     #[test]
     fn zeros_for_room() {
-        let path = std::env::temp_dir().join(format!("hunkravy-zeros-{}", std::process::id()));
+        let Paths(path, _) = &Paths::new("zeros");
         for (from, end) in [(100, 200_000), (300, 301), (5, 5), (65_536, 131_072)] {
-            fs::write(&path, [7; 300]).unwrap();
-            let file = File::options().write(true).open(&path).unwrap();
-            write_zeros(&file, from, end).unwrap();
+            fs::write(path, [7; 300]).unwrap();
+            write_zeros(&options().open(path).unwrap(), from, end).unwrap();
             let mut expected = vec![7; 300];
-            expected.resize(300.max(if from < end { end as usize } else { 0 }), 0);
-            expected[300.min(from as usize)..].fill(if from < end { 0 } else { 7 });
-            assert!(fs::read(&path).unwrap() == expected, "{from} {end}");
+            if from < end {
+                expected.truncate(from as usize);
+                expected.resize(end as usize, 0);
+            }
+            assert!(fs::read(path).unwrap() == expected, "{from} {end}");
         }
-        fs::remove_file(&path).unwrap();
     }
 
     /// An empty journal is removed when it is opened, whoever may open it, and another file of its name is not.
     #[test]
     fn empty_journals() {
-        let at = std::env::temp_dir().join(format!("hunkravy-empty-{}", std::process::id()));
-        File::create(&at).unwrap();
+        let Paths(_, at) = &Paths::new("empty");
+        File::create(at).unwrap();
         let mut journal = JournalFile::at(Some(at.clone()));
         journal.set_size(0).unwrap();
         assert!(!at.exists() && journal.file.is_none());
         // A commit makes its own in place of it.
-        let left = File::create(&at).unwrap();
+        let left = File::create(at).unwrap();
         journal.check_path().unwrap();
         journal.write_at(b"journal", 0).unwrap();
-        assert_eq!(fs::read(&at).unwrap(), b"journal");
+        assert_eq!(fs::read(at).unwrap(), b"journal");
         assert_eq!(left.metadata().unwrap().len(), 0);
         journal.sync().unwrap();
         assert!(journal.is_name_synced);
@@ -870,44 +839,34 @@ mod tests {
         journal.set_size(0).unwrap();
         journal.sync().unwrap();
         assert!(!at.exists() && journal.file.is_none() && !journal.is_name_synced);
-        File::create(&at).unwrap();
-        journal.file = Some(File::options().read(true).write(true).open(&at).unwrap());
-        fs::remove_file(&at).unwrap();
-        fs::write(&at, "another").unwrap();
+        File::create(at).unwrap();
+        journal.file = Some(options().open(at).unwrap());
+        fs::remove_file(at).unwrap();
+        fs::write(at, "another").unwrap();
         journal.sync().unwrap();
-        assert_eq!(fs::read(&at).unwrap(), b"another");
-        fs::remove_file(&at).unwrap();
+        assert_eq!(fs::read(at).unwrap(), b"another");
     }
 
-    /// The name of a file is synced before its first commit, once.
+    /// The name of a file is synced before its first commit, once, and so is that of a journal that is not empty.
     #[test]
     fn the_name_of_a_new_file_is_synced_once() {
-        let path = std::env::temp_dir().join(format!("hunkravy-names-{}", std::process::id()));
-        let mut made = FileIo::create_new(&path).unwrap();
-        let mut created = FileIo::create(&path).unwrap();
-        let mut opened = FileIo::open(&path).unwrap();
-        std::fs::remove_file(&path).unwrap();
-        for io in [&mut made, &mut created, &mut opened] {
+        let Paths(path, _) = &Paths::new("names");
+        let made = FileIo::create_new(path).unwrap();
+        let (created, opened) = (FileIo::create(path).unwrap(), FileIo::open(path).unwrap());
+        for mut io in [made, created, opened] {
             // It has a name, in a folder that cannot be synced.
             io.path = Some("/proc/version".into());
             io.file = File::open("/proc/version").unwrap();
             assert!(io.check_name().is_ok(), "{:?}", io.check_name());
             assert!(io.check_path().is_err() && !io.is_name_synced);
         }
-        // So is that of a journal that is not empty.
         let mut journal = JournalFile::at(Some("/proc/file".into()));
-        let file = File::options()
-            .create(true)
-            .write(true)
-            .truncate(true)
-            .open(&path);
-        journal.file = Some(file.unwrap());
+        journal.file = Some(options().open(path).unwrap());
         journal.set_size(1).unwrap();
         assert!(journal.sync().is_err());
         journal.is_name_synced = true;
         assert!(journal.sync().is_ok());
-        let mut opened = FileIo::open(&path).unwrap();
+        let mut opened = FileIo::open(path).unwrap();
         assert!(opened.check_path().is_ok() && opened.is_name_synced);
-        fs::remove_file(&path).unwrap();
     }
 }
