@@ -1,17 +1,20 @@
 //! Memory that runs out: each allocation of a call fails in turn, alone or with all after it. The call returns an error, and
 //! nothing has changed. One that cannot fail would end this program.
 
+#[path = "sealed/random.rs"]
+mod random;
+#[allow(dead_code)]
+#[path = "raf/support.rs"]
+mod support;
+
 use hunkravy::files::{SealedReader, SealedWriter};
-use hunkravy::raf::{Aegis256, Raf, RafBuilder, RafIo, RafRng, Result, derive_key};
+use hunkravy::raf::{Aegis256, Raf, Result, derive_key};
 use hunkravy::records::{self, Opener, Sealer};
 use std::alloc::{GlobalAlloc, Layout, System};
-use std::cell::{Cell, RefCell};
+use std::cell::Cell;
 use std::fs;
 use std::io::{self, BufRead, ErrorKind, Read, Write};
-use std::path::PathBuf;
-use std::rc::Rc;
-
-const KEY: [u8; 32] = [7; 32];
+use support::*;
 
 thread_local! {
     /// How many allocations still succeed in this thread, whether only one fails then, and whether one has failed.
@@ -93,229 +96,100 @@ fn each_failure<S, T>(
     panic!("more than 1000 allocations");
 }
 
-/// The path of a file with 50,000 bytes of 1.
-fn path(name: &str) -> PathBuf {
-    let path = std::env::temp_dir().join(format!("hunkravy-oom-{name}-{}", std::process::id()));
-    let _ = fs::remove_file(&path);
-    let mut file = Raf::<Aegis256>::create_file(&path, &KEY).unwrap();
-    file.write(&[1; 50_000], 0).unwrap();
-    file.commit().unwrap();
-    path
-}
-
-fn text_of<I: RafIo, R: RafRng, J: RafIo>(file: &mut Raf<Aegis256, I, R, J>) -> Vec<u8> {
-    let mut text = vec![9; file.size() as usize];
-    file.read(&mut text, 0).unwrap();
-    text
-}
-
-/// A file with a change in memory.
-fn changed(path: &PathBuf) -> Raf<Aegis256> {
-    fs::remove_file(path).unwrap();
-    let mut file = Raf::<Aegis256>::create_file(path, &KEY).unwrap();
+/// A file of 50,000 bytes with changes in memory, in some of its pages.
+fn changed(folder: &Folder) -> Raf<Aegis256> {
+    let mut file = folder.create_over().unwrap();
     file.write(&[1; 50_000], 0).unwrap();
     file.commit().unwrap();
     file.write(&[2; 10], 5).unwrap();
+    file.write(&[1; 20_000], 20_000).unwrap();
     file
 }
 
-/// The contents of such a file.
-fn contents() -> Vec<u8> {
-    let mut text = vec![1; 50_000];
-    text[5..15].fill(2);
-    text
-}
-
-fn call(done: impl FnOnce() -> Result<()>) -> io::Result<()> {
-    Ok(done()?)
-}
-
+/// A change, a commit or a batch without memory changes nothing, and can be made again. What was changed before a batch may be
+/// committed. A read and a commitment take no memory.
 #[test]
-fn changes_of_a_file() {
-    let path = path("changes");
-    let is_kept = |file: &mut Raf<Aegis256>| text_of(file) == contents();
+fn calls_of_a_file() {
     type Call = fn(&mut Raf<Aegis256>) -> Result<()>;
-    let calls: [Call; 6] = [
-        |file| file.write(&[3; 60_000], 7).map(|_| ()),
-        |file| file.write(&[3], 45_000).map(|_| ()),
-        |file| file.truncate(70_000),
-        |file| file.read(&mut [0; 100], 0).map(|_| ()),
-        |file| file.commitment().map(|_| ()),
-        |file| Ok(file.cursor().write_all(b"text")?),
+    let calls: [(Call, usize); 8] = [
+        (|file| file.write(&[3; 60_000], 7).map(drop), 1),
+        (|file| file.write(&[3], 45_000).map(drop), 1),
+        (|file| file.truncate(70_000), 1),
+        (|file| file.read(&mut [0; 100], 0).map(drop), 0),
+        (|file| file.commitment().map(drop), 0),
+        (|file| Ok(file.cursor().write_all(b"text")?), 1),
+        (|file| file.commit(), 5),
+        (
+            |file| {
+                file.batch(|file| {
+                    file.write(&[3; 9000], 100)?;
+                    file.batch(|file| file.write(&[4; 9000], 200))?;
+                    file.truncate(60_000)
+                })
+            },
+            11,
+        ),
     ];
-    for (number, done) in calls.iter().enumerate() {
-        let count = each_failure(|| changed(&path), |file| call(|| done(file)), is_kept);
-        assert!(count > 0 || [3, 4].contains(&number), "{number}");
+    let folder = Folder::new();
+    let mut contents = vec![1; 50_000];
+    contents[5..15].fill(2);
+    let is_kept = |file: &mut Raf<Aegis256>| text_of(file) == contents;
+    for (call, least) in calls {
+        let call = |file: &mut Raf<Aegis256>| Ok(call(file)?);
+        let count = each_failure(|| changed(&folder), call, is_kept);
+        assert!(count >= least, "{count} of {least}");
     }
-    fs::remove_file(&path).unwrap();
+    changed(&folder).commit().unwrap();
+    assert_eq!(folder.text(), contents);
 }
 
-/// A commit that has no memory changes nothing, and can be made again.
-#[test]
-fn commits_of_a_file() {
-    let path = path("commits");
-    let make = || {
-        let mut file = changed(&path);
-        file.write(&[2; 10], 5).unwrap();
-        file.write(&[1; 30_000], 20_000).unwrap();
-        file
-    };
-    let is_kept = |file: &mut Raf<Aegis256>| text_of(file) == contents();
-    assert!(each_failure(make, |file| call(|| file.commit()), is_kept) > 4);
-    assert_eq!(
-        text_of(&mut Raf::open_file(&path, &KEY).unwrap()),
-        contents()
-    );
-    fs::remove_file(&path).unwrap();
-}
-
-/// A batch without memory changes nothing. What was changed before it may be committed.
-#[test]
-fn batches_of_a_file() {
-    let path = path("batches");
-    let made = |file: &mut Raf<Aegis256>| {
-        file.batch(|file| {
-            file.write(&[3; 9000], 100)?;
-            file.batch(|file| file.write(&[4; 9000], 200))?;
-            file.truncate(60_000)
-        })
-    };
-    let is_kept = |file: &mut Raf<Aegis256>| text_of(file) == contents();
-    assert!(each_failure(|| changed(&path), |file| call(|| made(file)), is_kept) > 10);
-    fs::remove_file(&path).unwrap();
-}
-
-/// Bytes that outlive the file over them.
-#[derive(Clone, Default)]
-struct Memory(Rc<RefCell<Vec<u8>>>);
-
-impl Memory {
-    fn of(bytes: &[u8]) -> Self {
-        // With room, so that a write takes no memory.
-        let mut all = Vec::with_capacity(200_000);
-        all.extend_from_slice(bytes);
-        Memory(Rc::new(RefCell::new(all)))
+/// Disks that take no memory.
+fn quiet(bytes: &Bytes) -> Disks {
+    let disks = Disks::of(bytes.clone());
+    for disk in [&disks.file, &disks.journal] {
+        disk.bytes.borrow_mut().reserve(200_000);
     }
-}
-
-impl RafIo for Memory {
-    fn read_at(&mut self, buf: &mut [u8], offset: u64) -> io::Result<()> {
-        let bytes = self.0.borrow();
-        let rest = bytes.get(offset as usize..);
-        let part = rest.and_then(|rest| rest.get(..buf.len()));
-        buf.copy_from_slice(part.ok_or(ErrorKind::UnexpectedEof)?);
-        Ok(())
-    }
-
-    fn write_at(&mut self, data: &[u8], offset: u64) -> io::Result<()> {
-        let mut bytes = self.0.borrow_mut();
-        let end = offset as usize + data.len();
-        let length = bytes.len().max(end);
-        bytes.resize(length, 0);
-        bytes[offset as usize..end].copy_from_slice(data);
-        Ok(())
-    }
-
-    fn get_size(&mut self) -> io::Result<u64> {
-        Ok(self.0.borrow().len() as u64)
-    }
-
-    fn set_size(&mut self, size: u64) -> io::Result<()> {
-        self.0.borrow_mut().resize(size as usize, 0);
-        Ok(())
-    }
-}
-
-/// A journal that is not emptied at the end of a commit.
-struct Kept(Memory);
-
-impl RafIo for Kept {
-    fn read_at(&mut self, buf: &mut [u8], offset: u64) -> io::Result<()> {
-        self.0.read_at(buf, offset)
-    }
-
-    fn write_at(&mut self, data: &[u8], offset: u64) -> io::Result<()> {
-        self.0.write_at(data, offset)
-    }
-
-    fn get_size(&mut self) -> io::Result<u64> {
-        self.0.get_size()
-    }
-
-    fn set_size(&mut self, _size: u64) -> io::Result<()> {
-        match self.0.get_size()? {
-            0 => Ok(()),
-            _ => Err(ErrorKind::Other.into()),
-        }
-    }
-}
-
-/// The bytes of a file before a commit, and the journal of that commit.
-fn with_journal() -> (Vec<u8>, Vec<u8>) {
-    let (file, journal) = (Memory::default(), Memory::default());
-    let builder = RafBuilder::<Aegis256>::new().journal(journal.clone());
-    let mut open = builder.create(file.clone(), &KEY).unwrap();
-    open.write(&[1; 20_000], 0).unwrap();
-    drop(open);
-    let before = file.0.borrow().clone();
-    let builder = RafBuilder::<Aegis256>::new().journal(Kept(journal.clone()));
-    let mut open = builder.open(file, &KEY).unwrap();
-    open.write(&[2; 20_000], 0).unwrap();
-    assert!(open.commit().is_err());
-    drop(open);
-    (before, journal.0.take())
+    disks.log().is_on = false;
+    disks
 }
 
 /// An opening without memory loses nothing, also if it is to complete a commit.
 #[test]
 fn openings() {
-    let (file, journal) = with_journal();
-    for (journal, byte) in [(&[][..], 1), (&journal[..], 2), (&journal[..9000], 1)] {
-        let make = || (Memory::of(&file), Memory::of(journal));
-        let open = |disks: &mut (Memory, Memory)| {
-            let builder = RafBuilder::<Aegis256>::new().journal(disks.1.clone());
-            Ok(builder.open(disks.0.clone(), &KEY)?)
-        };
-        let is_kept = |disks: &mut (Memory, Memory)| {
-            let mut file = open(disks).unwrap();
-            text_of(&mut file) == [byte; 20_000]
-        };
-        let call = |disks: &mut (Memory, Memory)| open(disks).map(|_| ());
-        assert!(each_failure(make, call, is_kept) > 0);
+    let begun = Disks::with(&[1; 20_000]).bytes();
+    let (file, journal) = cut_short(&begun, &[2; 20_000], 0, JOURNAL_CALLS).bytes();
+    for (journal, byte) in [(&[][..], 1), (&journal, 2), (&journal[..9000], 1)] {
+        let bytes = (file.clone(), journal.to_vec());
+        let call = |disks: &mut Disks| Ok(disks.open().map(drop)?);
+        let is_kept = |disks: &mut Disks| disks.text() == [byte; 20_000];
+        assert!(each_failure(|| quiet(&bytes), call, is_kept) > 0);
     }
 }
 
 /// Opening or creating at a path returns an error if there is no memory at all.
 #[test]
 fn files_at_paths() {
-    let path = path("paths");
-    let (opened, _) = with_failure(0, false, || Raf::<Aegis256>::open_file(&path, &KEY));
-    assert_eq!(
-        io::Error::from(opened.unwrap_err()).kind(),
-        ErrorKind::OutOfMemory
-    );
-    assert_eq!(
-        text_of(&mut Raf::open_file(&path, &KEY).unwrap()),
-        [1; 50_000]
-    );
+    let folder = Folder::with(b"text");
+    let path = folder.file();
+    let open = || Raf::<Aegis256>::open_file(&path, &KEY);
+    assert_eq!(outcome(with_failure(0, false, open).0), "OutOfMemory");
+    assert_eq!(folder.text(), b"text");
     fs::remove_file(&path).unwrap();
-    let (created, _) = with_failure(0, false, || Raf::<Aegis256>::create_file(&path, &KEY));
-    assert_eq!(
-        io::Error::from(created.unwrap_err()).kind(),
-        ErrorKind::OutOfMemory
-    );
+    let create = || Raf::<Aegis256>::create_file(&path, &KEY);
+    assert_eq!(outcome(with_failure(0, false, create).0), "OutOfMemory");
     assert!(!path.exists());
 }
 
 #[test]
 fn creations() {
-    let make = || Memory::of(&[]);
-    let create = |disk: &mut Memory| {
-        let builder = RafBuilder::<Aegis256>::new().truncate(true);
-        Ok(builder.create(disk.clone(), &KEY).map(|_| ())?)
+    let make = || quiet(&Bytes::default());
+    let create = |disks: &mut Disks| {
+        let created = disks.builder().create(disks.file.clone(), &KEY);
+        Ok(created.map(drop)?)
     };
-    assert!(each_failure(make, create, |disk| disk.0.borrow().is_empty()) > 0);
-    let derive = |_: &mut ()| Ok(derive_key(&KEY, b"context").map(|_| ())?);
+    let is_kept = |disks: &mut Disks| disks.bytes() == Bytes::default();
+    assert!(each_failure(make, create, is_kept) > 0);
+    let derive = |_: &mut ()| Ok(derive_key(&KEY, b"context").map(drop)?);
     assert_eq!(each_failure(|| (), derive, |()| true), 0);
 }
 
@@ -339,7 +213,7 @@ fn record_streams() {
     stream.clear();
     sealer.seal_last(&[9; 1000], &mut stream).unwrap();
     let make = || Opener::new(&KEY, &[1; 24], b"context", &sealer.header()).unwrap();
-    let open = |opener: &mut Opener<'_>| Ok(opener.open_next(&stream).map(|_| ())?);
+    let open = |opener: &mut Opener<'_>| Ok(opener.open_next(&stream).map(drop)?);
     assert_eq!(each_failure(make, open, |opener| !opener.has_ended()), 1);
     assert_eq!(
         io::Error::from(records::Error::OutOfMemory).kind(),
@@ -349,28 +223,23 @@ fn record_streams() {
 
 #[test]
 fn sealed_files() {
-    let begin = |_: &mut ()| SealedWriter::new(io::sink(), &KEY).map(|_| ());
+    let begin = |_: &mut ()| SealedWriter::new(io::sink(), &KEY).map(drop);
     assert_eq!(each_failure(|| (), begin, |()| true), 1);
     let make = || Some(SealedWriter::new(io::sink(), &KEY).unwrap());
     let write = |writer: &mut Option<SealedWriter<io::Sink>>| {
         writer.as_mut().unwrap().write_all(&[1; 100_000])?;
-        writer.take().unwrap().finish().map(|_| ())
+        writer.take().unwrap().finish().map(drop)
     };
     assert_eq!(each_failure(make, write, |_| true), 0);
     let mut writer = SealedWriter::new(Vec::new(), &KEY).unwrap();
     writer.write_all(&[1; 100_000]).unwrap();
     let file = writer.finish().unwrap();
     let make = || SealedReader::new(&file[..], &KEY);
-    let read = |reader: &mut SealedReader<&[u8]>| -> io::Result<()> {
-        let mut bytes = [0; 1000];
-        for _ in 0..100 {
-            reader.read_exact(&mut bytes)?;
-            assert_eq!(bytes, [1; 1000]);
-        }
-        assert_eq!(reader.read(&mut bytes)?, 0);
-        Ok(())
+    let fill = |reader: &mut SealedReader<&[u8]>| reader.fill_buf().map(drop);
+    let read = |reader: &mut SealedReader<&[u8]>| {
+        let mut bytes = Vec::new();
+        reader.read_to_end(&mut bytes).unwrap();
+        bytes == [1; 100_000]
     };
-    let count = each_failure(make, |reader| reader.fill_buf().map(|_| ()), |_| true);
-    assert!(count > 0);
-    assert!(read(&mut make()).is_ok());
+    assert!(each_failure(make, fill, read) > 0);
 }

@@ -113,6 +113,8 @@ pub struct Log {
     pub reads_left: usize,
     pub locks: usize,
     pub seed: u64,
+    /// Whether calls are kept.
+    pub is_on: bool,
 }
 
 /// A disk in memory, whose bytes outlive the file over it.
@@ -127,9 +129,11 @@ pub struct Disk {
 
 impl Disk {
     /// Logs a call. Returns an error if it fails.
-    fn log(&self, call: Call) -> io::Result<()> {
+    fn log(&self, call: impl FnOnce() -> Call) -> io::Result<()> {
         let mut log = self.log.borrow_mut();
-        log.calls.push((self.part, call));
+        if log.is_on {
+            log.calls.push((self.part, call()));
+        }
         log.left = log.left.checked_sub(1).ok_or(io::ErrorKind::Other)?;
         Ok(())
     }
@@ -151,7 +155,7 @@ impl RafIo for Disk {
 
     /// If it fails, half of the bytes are written.
     fn write_at(&mut self, data: &[u8], offset: u64) -> io::Result<()> {
-        let done = self.log(Call::Write(offset, data.to_vec()));
+        let done = self.log(|| Call::Write(offset, data.to_vec()));
         let count = data.len() / if done.is_ok() { 1 } else { 2 };
         put(&mut self.bytes.borrow_mut(), offset, &data[..count]);
         done
@@ -162,13 +166,13 @@ impl RafIo for Disk {
     }
 
     fn set_size(&mut self, size: u64) -> io::Result<()> {
-        self.log(Call::Resize(size))?;
+        self.log(|| Call::Resize(size))?;
         self.bytes.borrow_mut().resize(size as usize, 0);
         Ok(())
     }
 
     fn sync(&mut self) -> io::Result<()> {
-        self.log(Call::Sync)
+        self.log(|| Call::Sync)
     }
 
     fn lock(&mut self) -> Result<()> {
@@ -205,6 +209,7 @@ impl Disks {
             reads_left: usize::MAX,
             locks: 0,
             seed: 5,
+            is_on: true,
         }));
         let disk = |bytes, part| Disk {
             bytes: Rc::new(RefCell::new(bytes)),
