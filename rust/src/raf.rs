@@ -77,7 +77,7 @@ use changes::{Changes, SealedChanges, copy_of};
 use core::fmt;
 use core::iter::once;
 use core::ops::Range;
-use journal::{Buffer, JournalSeal, PendingWrite};
+use journal::{Buffer, PendingWrite};
 use layout::{HEADER_BLOCK_BYTES, Layout};
 use std::io::ErrorKind;
 #[cfg(feature = "raf")]
@@ -332,14 +332,13 @@ impl<A: Algorithm, I: RafIo, R: RafRng, J: RafIo> Raf<A, I, R, J> {
             return Ok(());
         }
         let counter = self.counter.checked_add(1).ok_or(Error::TooLong)?;
-        let header_block = recovery::read_header_block(&mut self.io)?
-            .ok_or(Error::Io(ErrorKind::UnexpectedEof.into()))?;
+        let header = recovery::read_header_block(&mut self.io)?;
+        let header = header.ok_or(Error::Io(ErrorKind::UnexpectedEof.into()))?;
         let numbers = self.changes.numbers()?;
         let nonces = self.nonces(numbers.len() + 1)?;
-        let next_header = self
-            .layout
-            .header(counter, self.size, &nonces[numbers.len()]);
-        self.commit_pages(&numbers, &nonces, [&header_block, &next_header])?;
+        let (size, nonce) = (self.size, &nonces[numbers.len()]);
+        let next_header = self.layout.header(counter, size, nonce);
+        self.commit_pages(&numbers, &nonces, [&header, &next_header])?;
         self.counter = counter;
         self.stored = self.size;
         Ok(())
@@ -353,7 +352,9 @@ impl<A: Algorithm, I: RafIo, R: RafRng, J: RafIo> Raf<A, I, R, J> {
         nonces: &[A::Nonce],
         headers: [&[u8; HEADER_BLOCK_BYTES]; 2],
     ) -> Result<()> {
-        let seal = self.journal_seal()?;
+        let mut nonce = [0; journal::NONCE_BYTES];
+        self.rng.fill(&mut nonce)?;
+        let seal = self.layout.journal(&nonce);
         let mut buffer = Buffer::new()?;
         let mut writes = with_room(numbers.len() + headers.len())?;
         let sealed = SealedChanges::new(&self.layout, &mut self.changes, numbers, nonces);
@@ -362,9 +363,9 @@ impl<A: Algorithm, I: RafIo, R: RafRng, J: RafIo> Raf<A, I, R, J> {
         // Not before: sealing may take long, and the file may be moved meanwhile.
         self.io.check_path()?;
         let new = self.layout.page_place(self.layout.page_count(self.stored));
-        let end = numbers
-            .last()
-            .map_or(0, |number| self.layout.page_place(number + 1));
+        let end = self
+            .layout
+            .page_place(numbers.last().map_or(0, |last| last + 1));
         if end > new {
             // Nobody could make the writes of a journal without room, and so the file would not open.
             self.io.reserve(new, end)?;
@@ -379,13 +380,6 @@ impl<A: Algorithm, I: RafIo, R: RafRng, J: RafIo> Raf<A, I, R, J> {
         drop(writes);
         sealed.forget();
         Ok(())
-    }
-
-    /// Begins the next journal.
-    fn journal_seal(&mut self) -> Result<JournalSeal> {
-        let mut nonce = [0; journal::NONCE_BYTES];
-        self.rng.fill(&mut nonce)?;
-        Ok(self.layout.journal(&nonce))
     }
 
     /// Commits the changes.
@@ -530,64 +524,36 @@ impl<A: Algorithm, I: RafIo, R: RafRng, J: RafIo> fmt::Debug for Raf<A, I, R, J>
     }
 }
 
-#[cfg(test)]
+#[cfg(all(test, feature = "raf"))]
 mod tests {
-    use super::layout::Layout;
-    use super::layout::PageHeader;
-    use super::{Aegis256, Error, MAX_SIZE, NoJournal, RafBuilder, RafIo, RafRng, Result};
-    use alloc::vec::Vec;
-    use std::io::{self, ErrorKind};
+    use super::io::tests::Paths;
+    use super::layout::{Layout, PageHeader};
+    use super::{Aegis256, Error, FileIo, MAX_SIZE, NoJournal, OsRng, Raf, RafBuilder};
 
-    /// A file of its header alone, which nothing writes.
-    struct Header(Vec<u8>);
+    type File = Raf<Aegis256, FileIo, OsRng, NoJournal>;
 
-    impl RafIo for Header {
-        fn read_at(&mut self, buf: &mut [u8], offset: u64) -> io::Result<()> {
-            let rest = self.0.get(offset as usize..).unwrap_or(&[]);
-            let part = rest.get(..buf.len()).ok_or(ErrorKind::UnexpectedEof)?;
-            buf.copy_from_slice(part);
-            Ok(())
-        }
-
-        fn write_at(&mut self, _data: &[u8], _offset: u64) -> io::Result<()> {
-            Err(ErrorKind::Unsupported.into())
-        }
-
-        fn get_size(&mut self) -> io::Result<u64> {
-            Ok(self.0.len() as u64)
-        }
-
-        fn set_size(&mut self, _size: u64) -> io::Result<()> {
-            Err(ErrorKind::Unsupported.into())
-        }
-    }
-
-    struct Zeros;
-
-    impl RafRng for Zeros {
-        fn fill(&mut self, buf: &mut [u8]) -> Result<()> {
-            buf.fill(0);
-            Ok(())
-        }
-    }
-
-    /// The counter of commits does not begin again.
-    #[test]
-    fn the_last_commit() {
+    /// Opens a file that has its header alone: after so many commits, and with contents of this length.
+    fn file(Paths(path, _): &Paths, counter: u64, size: u64) -> File {
         let header = PageHeader {
             page_size: 256,
             ..PageHeader::default()
         };
         let layout = Layout::<Aegis256>::of(&[7; 32], &header);
+        std::fs::write(path, layout.header(counter, size, &[1; 32])).unwrap();
+        let builder = RafBuilder::new().journal(NoJournal);
+        builder.open_file(path, &[7; 32]).unwrap()
+    }
+
+    /// The counter of commits does not begin again.
+    #[test]
+    fn the_last_commit() {
+        let paths = Paths::new("last");
         for (counter, is_last) in [(u64::MAX, true), (u64::MAX - 1, false)] {
-            let header_block = layout.header(counter, 0, &[1; 32]).to_vec();
-            let builder = RafBuilder::<Aegis256>::with_rng(Zeros).journal(NoJournal);
-            let mut file = builder.open(Header(header_block), &[7; 32]).unwrap();
+            let mut file = file(&paths, counter, 0);
             file.write(&[1], 0).unwrap();
             let committed = file.commit();
             assert_eq!(matches!(committed, Err(Error::TooLong)), is_last);
-            // This storage cannot grow.
-            assert_eq!(matches!(committed, Err(Error::Io(_))), !is_last);
+            assert_eq!(committed.is_ok(), !is_last);
             file.discard();
         }
     }
@@ -595,24 +561,13 @@ mod tests {
     /// The last byte of the longest contents may be written, and none after it.
     #[test]
     fn the_longest_contents() {
-        let header = PageHeader {
-            page_size: 256,
-            contents_len: MAX_SIZE,
-            ..PageHeader::default()
-        };
-        let layout = Layout::<Aegis256>::of(&[7; 32], &header);
-        let header_block = layout.header(0, MAX_SIZE, &[1; 32]).to_vec();
-        let builder = RafBuilder::<Aegis256>::with_rng(Zeros).journal(NoJournal);
-        let mut file = builder.open(Header(header_block), &[7; 32]).unwrap();
+        let mut file = file(&Paths::new("longest"), 0, MAX_SIZE);
         assert_eq!(file.size(), MAX_SIZE);
         // Its page is not there.
         let written = file.write(&[1], MAX_SIZE - 1);
         assert!(matches!(written, Err(Error::Io(_))), "{written:?}");
-        for (data, offset) in [
-            (&[1, 2][..], MAX_SIZE - 1),
-            (&[1], MAX_SIZE),
-            (&[], MAX_SIZE + 1),
-        ] {
+        let (last, end) = (MAX_SIZE - 1, MAX_SIZE);
+        for (data, offset) in [(&[1, 2][..], last), (&[1], end), (&[], end + 1)] {
             let written = file.write(data, offset);
             assert!(matches!(written, Err(Error::TooLong)), "{written:?}");
         }

@@ -9,19 +9,11 @@ use std::sync::{Mutex, MutexGuard, PoisonError};
 
 /// The number of the last batch, and the numbers of those that are being made, in all threads. A file knows its batch by the
 /// number, also if the program has moved the file elsewhere.
-struct Batches {
-    last: u64,
-    open: Vec<u64>,
-}
+type Batches = (u64, Vec<u64>);
 
 /// A process that was forked has another list than the one that forked it: a thread of that one may have held its list, which
 /// then is locked for ever in the child. A child has no use for it, since it cannot use the files of the other.
-static BATCHES: [Mutex<Batches>; 16] = [const {
-    Mutex::new(Batches {
-        last: 0,
-        open: Vec::new(),
-    })
-}; 16];
+static BATCHES: [Mutex<Batches>; 16] = [const { Mutex::new((0, Vec::new())) }; 16];
 
 fn batches() -> MutexGuard<'static, Batches> {
     let list = &BATCHES[forks() as usize % BATCHES.len()];
@@ -30,13 +22,12 @@ fn batches() -> MutexGuard<'static, Batches> {
 
 /// Begins a batch, and returns its number.
 fn begin() -> Result<u64, Error> {
-    let mut batches = batches();
-    let reserved = batches.open.try_reserve(1);
+    let (last, open) = &mut *batches();
+    let reserved = open.try_reserve(1);
     reserved.map_err(|_| Error::Io(ErrorKind::OutOfMemory.into()))?;
-    batches.last += 1;
-    let number = batches.last;
-    batches.open.push(number);
-    Ok(number)
+    *last += 1;
+    open.push(*last);
+    Ok(*last)
 }
 
 /// What a batch inside another goes back to if it fails.
@@ -61,7 +52,11 @@ impl<'a, A: Algorithm, I: RafIo, R: RafRng, J: RafIo> Batch<'a, A, I, R, J> {
     fn begin(file: &'a mut Raf<A, I, R, J>) -> Result<Self, Error> {
         file.check_is_usable()?;
         let savepoint = if file.is_in_batch() {
-            Some(file.savepoint()?)
+            Some(Savepoint {
+                changes: file.changes.try_clone()?,
+                size: file.size,
+                counter: file.counter,
+            })
         } else {
             file.commit()?;
             file.batch = begin()?;
@@ -104,7 +99,7 @@ impl<A: Algorithm, I: RafIo, R: RafRng, J: RafIo> Drop for Batch<'_, A, I, R, J>
         }
         let savepoint = self.savepoint.take();
         if savepoint.is_none() {
-            batches().open.retain(|open| *open != self.number);
+            batches().1.retain(|open| *open != self.number);
         }
         if self.is_of_file() && !self.is_complete {
             self.file.go_back(savepoint);
@@ -155,15 +150,7 @@ impl<A: Algorithm, I: RafIo, R: RafRng, J: RafIo> Raf<A, I, R, J> {
 
     /// Returns whether the file is in a batch that is being made.
     pub(super) fn is_in_batch(&self) -> bool {
-        self.batch != 0 && self.owner.seems_this() && batches().open.contains(&self.batch)
-    }
-
-    fn savepoint(&self) -> Result<Savepoint, Error> {
-        Ok(Savepoint {
-            changes: self.changes.try_clone()?,
-            size: self.size,
-            counter: self.counter,
-        })
+        self.batch != 0 && self.owner.seems_this() && batches().1.contains(&self.batch)
     }
 
     /// Discards the changes since a savepoint, or all since the last commit.

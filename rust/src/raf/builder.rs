@@ -81,15 +81,7 @@ impl<A: Algorithm, R: RafRng, J: JournalChoice> RafBuilder<A, R, J> {
 
     /// Sets the source of random bytes.
     pub fn rng<S: RafRng>(self, rng: S) -> RafBuilder<A, S, J> {
-        let journal = self.journal;
-        RafBuilder {
-            chunk_size: self.chunk_size,
-            truncate: self.truncate,
-            buffer_limit: self.buffer_limit,
-            rng,
-            journal,
-            algorithm: PhantomData,
-        }
+        self.with(|_, journal| (rng, journal))
     }
 
     /// Sets the journal. For a [`FileIo`] that was opened through a path the default is a [`JournalFile`] beside the file. A
@@ -99,14 +91,7 @@ impl<A: Algorithm, R: RafRng, J: JournalChoice> RafBuilder<A, R, J> {
     /// If a journal is set, opening does not complete a commit from the journal beside the file. First open the file once with
     /// the default journal.
     pub fn journal<K: RafIo>(self, journal: K) -> RafBuilder<A, R, K> {
-        RafBuilder {
-            chunk_size: self.chunk_size,
-            truncate: self.truncate,
-            buffer_limit: self.buffer_limit,
-            rng: self.rng,
-            journal,
-            algorithm: PhantomData,
-        }
+        self.with(|rng, _| (rng, journal))
     }
 
     /// Creates an empty file in `io`, and syncs it. A crash before it returns, or [`Error::Io`], may leave a file that does not
@@ -123,7 +108,7 @@ impl<A: Algorithm, R: RafRng, J: JournalChoice> RafBuilder<A, R, J> {
     /// Other errors are [`Error::Io`].
     pub fn create<I: RafIo>(mut self, io: I, key: &A::Key) -> Result<Raf<A, I, R, J::Journal>> {
         let draws = self.draw()?;
-        self.begin(io, key, &draws)
+        self.begin(io, key, draws)
     }
 
     /// Opens the file in `io`. An interrupted commit is completed, or discarded as a whole.
@@ -175,7 +160,7 @@ impl<A: Algorithm, R: RafRng, J: JournalChoice> RafBuilder<A, R, J> {
             }
             made => made?,
         };
-        self.begin(io, key, &draws)
+        self.begin(io, key, draws)
     }
 
     /// Opens the file at a path.
@@ -191,37 +176,42 @@ impl<A: Algorithm, R: RafRng, J: JournalChoice> RafBuilder<A, R, J> {
         self.open(FileIo::open(path)?, key)
     }
 
-    fn choose(self, io: &impl RafIo) -> RafBuilder<A, R, J::Journal> {
+    /// Replaces the source and the journal.
+    fn with<S: RafRng, K: JournalChoice>(
+        self,
+        replace: impl FnOnce(R, J) -> (S, K),
+    ) -> RafBuilder<A, S, K> {
+        let (rng, journal) = replace(self.rng, self.journal);
         RafBuilder {
             chunk_size: self.chunk_size,
             truncate: self.truncate,
             buffer_limit: self.buffer_limit,
-            rng: self.rng,
-            journal: self.journal.of(io),
+            rng,
+            journal,
             algorithm: PhantomData,
         }
     }
 
-    /// Generates all random bytes that a new file needs, before anything is changed.
-    fn draw(&mut self) -> Result<Draws<A>> {
+    fn choose(self, io: &impl RafIo) -> RafBuilder<A, R, J::Journal> {
+        self.with(|rng, journal| (rng, journal.of(io)))
+    }
+
+    /// Generates the id of a new file and the nonce of its header, before anything is changed.
+    fn draw(&mut self) -> Result<([u8; ID_BYTES], A::Nonce)> {
         if !is_chunk_size(self.chunk_size) {
             return Err(Error::ChunkSize);
         }
-        let mut draws = Draws {
-            id: [0; ID_BYTES],
-            nonce: A::Nonce::default(),
-        };
-        self.rng.fill(&mut draws.id)?;
-        self.rng.fill(A::Nonce::as_mut(&mut draws.nonce))?;
-        draws.nonce = checked_nonce::<A>(draws.nonce)?;
-        Ok(draws)
+        let (mut id, mut nonce) = ([0; ID_BYTES], A::Nonce::default());
+        self.rng.fill(&mut id)?;
+        self.rng.fill(nonce.as_mut())?;
+        Ok((id, checked_nonce::<A>(nonce)?))
     }
 
     fn begin<I: RafIo>(
         self,
         mut io: I,
         key: &A::Key,
-        draws: &Draws<A>,
+        (id, nonce): ([u8; ID_BYTES], A::Nonce),
     ) -> Result<Raf<A, I, R, J::Journal>> {
         io.lock()?;
         let mut builder = self.choose(&io);
@@ -234,13 +224,12 @@ impl<A: Algorithm, R: RafRng, J: JournalChoice> RafBuilder<A, R, J> {
         }
         let header = PageHeader {
             page_size: builder.chunk_size,
-            id: draws.id,
-            counter: 0,
-            contents_len: 0,
+            id,
+            ..PageHeader::default()
         };
         let layout = Layout::of(key, &header);
         let (pages, owner) = (room_for_reads(&layout)?, Process::this()?);
-        let header_block = layout.header(0, 0, &draws.nonce);
+        let header_block = layout.header(0, 0, &nonce);
         empty(&mut builder.journal)?;
         io.set_size(0)?;
         io.write_at(&header_block, 0)?;
@@ -297,15 +286,8 @@ fn check_no_journal(path: &Path) -> Result<()> {
         io.lock()?;
     }
     // Nobody else commits meanwhile.
-    if journal.get_size()? == 0 {
-        Ok(())
-    } else {
-        Err(Error::Journal)
+    match journal.get_size()? {
+        0 => Ok(()),
+        _ => Err(Error::Journal),
     }
-}
-
-/// The random bytes of a new file.
-struct Draws<A: Algorithm> {
-    id: [u8; ID_BYTES],
-    nonce: A::Nonce,
 }

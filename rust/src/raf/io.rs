@@ -674,7 +674,7 @@ pub mod tests {
     use std::os::unix::fs::{chown, symlink};
 
     /// The paths of a file and of its journal, where nothing is left.
-    pub struct Paths(pub PathBuf, PathBuf);
+    pub struct Paths(pub PathBuf, pub PathBuf);
 
     impl Paths {
         pub fn new(name: &str) -> Self {
