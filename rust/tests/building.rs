@@ -47,64 +47,52 @@ impl Script {
         let package = folder(name);
         let program = package.join("build");
         let mut rustc = Command::new(std::env::var_os("RUSTC").unwrap_or_else(|| "rustc".into()));
-        rustc.args([
-            "--edition=2024",
-            concat!(env!("CARGO_MANIFEST_DIR"), "/build.rs"),
-            "-o",
-        ]);
-        assert!(rustc.arg(&program).status().unwrap().success());
+        rustc.arg(concat!(env!("CARGO_MANIFEST_DIR"), "/build.rs"));
+        rustc.arg("--edition=2024").arg("-o").arg(&program);
+        assert!(rustc.status().unwrap().success());
         Script { program, package }
     }
 
     /// Runs it with these variables alone, and returns the lines that it prints.
     fn run(&self, variables: &[(&str, &Path)]) -> Vec<String> {
         let mut command = Command::new(&self.program);
-        command
-            .env_clear()
-            .env("TARGET", "x86_64-unknown-linux-gnu");
+        command.env_clear().env("CARGO_MANIFEST_DIR", &self.package);
+        command.env("TARGET", "x86_64-unknown-linux-gnu");
         command.env("PATH", std::env::var_os("PATH").unwrap());
-        command.env("CARGO_MANIFEST_DIR", &self.package);
         command.env("PKG_CONFIG", "/nowhere/pkg-config");
         let output = command.envs(variables.iter().copied()).output().unwrap();
         let printed = String::from_utf8(output.stdout).unwrap();
         printed.lines().map(str::to_owned).collect()
     }
 
-    /// A folder with an archive in it, for x86-64.
-    fn with_archive(&self, name: &str) -> PathBuf {
-        self.with_archive_for(name, 62)
-    }
-
-    /// The same for the processor that ELF has this number for.
-    fn with_archive_for(&self, name: &str, machine: u8) -> PathBuf {
+    /// A folder with an archive in it, for the processor that ELF has this number for.
+    fn with_archive(&self, name: &str, machine: u8) -> PathBuf {
         let folder = self.package.join(name);
         fs::create_dir_all(&folder).unwrap();
         let object = b"!<arch>\n(its names)\x7fELF\x02\x01\x01\0\0\0\0\0\0\0\0\0\x01\0";
-        fs::write(
-            folder.join("libhunkravy.a"),
-            [&object[..], &[machine, 0, 1]].concat(),
-        )
-        .unwrap();
+        let archive = [&object[..], &[machine, 0, 1]].concat();
+        fs::write(folder.join("libhunkravy.a"), archive).unwrap();
         folder.canonicalize().unwrap()
     }
 }
+
+/// The numbers that ELF has for the processors.
+const X86_64: u8 = 62;
+const AARCH64: u8 = 183;
 
 /// A build for another target fails, and says why.
 #[test]
 fn a_build_for_another_target() {
     let script = Script::new("another-target");
-    let printed = script.run(&[("TARGET", Path::new("x86_64-apple-darwin"))]);
-    let has = |start: &str| printed.iter().any(|line| line.starts_with(start));
-    assert!(
-        has("cargo::error=") && !has("cargo::rustc-link"),
-        "{printed:?}"
-    );
-    let printed = script.run(&[]);
-    let has = |start: &str| printed.iter().any(|line| line.starts_with(start));
-    assert!(
-        !has("cargo::error=") && has("cargo::rustc-link-lib"),
-        "{printed:?}"
-    );
+    for (target, is_known) in [
+        ("x86_64-apple-darwin", false),
+        ("x86_64-unknown-linux-gnu", true),
+    ] {
+        let printed = script.run(&[("TARGET", Path::new(target))]);
+        let has = |start: &str| printed.iter().any(|line| line.starts_with(start));
+        assert_eq!(has("cargo::error="), !is_known, "{printed:?}");
+        assert_eq!(has("cargo::rustc-link-lib"), is_known, "{printed:?}");
+    }
 }
 
 /// The library is that of the variable, then that of the package, then that of pkg-config; and whatever would change that is
@@ -112,15 +100,11 @@ fn a_build_for_another_target() {
 #[test]
 fn the_library_that_is_found() {
     let script = Script::new("found");
-    let (named, installed) = (
-        script.with_archive("named"),
-        script.with_archive("installed"),
-    );
+    let named = script.with_archive("named", X86_64);
+    let installed = script.with_archive("installed", X86_64);
     let pkg_config = script.package.join("pkg-config");
-    let text = format!(
-        "#!/bin/sh\n[ \"$*\" = '--variable=libdir hunkravy' ] && echo {}\n",
-        installed.display()
-    );
+    let question = "[ \"$*\" = '--variable=libdir hunkravy' ]";
+    let text = format!("#!/bin/sh\n{question} && echo {}\n", installed.display());
     fs::write(&pkg_config, text).unwrap();
     fs::set_permissions(&pkg_config, Permissions::from_mode(0o755)).unwrap();
     let _ = fs::remove_dir_all(script.package.join("lib"));
@@ -128,7 +112,7 @@ fn the_library_that_is_found() {
 
     let finds = |variables: &[(&str, &Path)], folder: Option<&Path>| {
         let printed = script.run(variables);
-        let has = |line: String| printed.contains(&line);
+        let has = |line: &str| printed.iter().any(|text| text.starts_with(line));
         for variable in [
             "HUNKRAVY_LIB_DIR",
             "PKG_CONFIG",
@@ -136,35 +120,16 @@ fn the_library_that_is_found() {
             "PKG_CONFIG_LIBDIR",
             "PKG_CONFIG_SYSROOT_DIR",
         ] {
-            assert!(
-                has(format!("cargo::rerun-if-env-changed={variable}")),
-                "{printed:?}"
-            );
+            let line = format!("cargo::rerun-if-env-changed={variable}");
+            assert!(printed.contains(&line), "{printed:?}");
         }
-        let found: Vec<&String> = printed
-            .iter()
-            .filter(|line| line.contains("link-search"))
-            .collect();
-        let Some(folder) = folder else {
-            assert!(
-                found.is_empty() && has("cargo::rerun-if-changed=lib/libhunkravy.a".to_owned())
-            );
-            assert!(
-                printed
-                    .iter()
-                    .any(|line| line.starts_with("cargo::warning="))
-            );
-            return;
-        };
-        let folder = folder.display();
-        assert_eq!(
-            found,
-            [&format!("cargo::rustc-link-search=native={folder}")]
-        );
-        assert!(
-            has(format!("cargo::rerun-if-changed={folder}/libhunkravy.a")),
-            "{printed:?}"
-        );
+        let found = printed.iter().filter(|line| line.contains("link-search"));
+        let shown = folder.map_or("lib".to_owned(), |folder| folder.display().to_string());
+        let expected = folder.map(|_| format!("cargo::rustc-link-search=native={shown}"));
+        assert!(found.eq(&expected), "{printed:?}");
+        let again = format!("cargo::rerun-if-changed={shown}/libhunkravy.a");
+        assert!(printed.contains(&again), "{printed:?}");
+        assert_eq!(has("cargo::warning="), folder.is_none(), "{printed:?}");
     };
     let (by_name, by_program) = (("HUNKRAVY_LIB_DIR", &*named), ("PKG_CONFIG", &*pkg_config));
     finds(&[], None);
@@ -172,7 +137,7 @@ fn the_library_that_is_found() {
     finds(&[by_name], Some(&named));
     // A name that is wrong is an error, and no other library is taken in its place.
     finds(&[("HUNKRAVY_LIB_DIR", &*empty), by_program], None);
-    let own = script.with_archive("lib");
+    let own = script.with_archive("lib", X86_64);
     finds(&[by_program], Some(&own));
     finds(&[by_name, by_program], Some(&named));
     finds(&[("HUNKRAVY_LIB_DIR", &*empty), by_program], None);
@@ -182,21 +147,22 @@ fn the_library_that_is_found() {
 #[test]
 fn the_library_of_another_processor() {
     let script = Script::new("another-processor");
-    let (own, other) = (62, 183);
     for (target, machine, is_linked) in [
-        ("x86_64-unknown-linux-gnu", own, true),
-        ("x86_64-unknown-linux-musl", other, false),
+        ("x86_64-unknown-linux-gnu", X86_64, true),
+        ("x86_64-unknown-linux-musl", AARCH64, false),
         ("x86_64-unknown-linux-gnu", 0, false),
-        ("aarch64-unknown-linux-gnu", own, false),
-        ("aarch64-unknown-linux-musl", other, true),
+        ("aarch64-unknown-linux-gnu", X86_64, false),
+        ("aarch64-unknown-linux-musl", AARCH64, true),
     ] {
         for variable in ["HUNKRAVY_LIB_DIR", "NONE"] {
-            let named = script.with_archive_for("named", machine);
-            script.with_archive_for("lib", machine);
+            let named = script.with_archive("named", machine);
+            script.with_archive("lib", machine);
             let printed = script.run(&[("TARGET", Path::new(target)), (variable, &named)]);
             let has = |text: &str| printed.iter().any(|line| line.contains(text));
             assert_eq!(has("link-search"), is_linked, "{printed:?}");
-            assert!(is_linked || has(&format!("is not for {}", target.split('-').next().unwrap())));
+            let (processor, _) = target.split_once('-').unwrap();
+            let refused = format!("is not for {processor}");
+            assert_eq!(has(&refused), !is_linked, "{printed:?}");
         }
     }
 }
@@ -237,13 +203,8 @@ fn cargo(command: &str, program: &str, name: &str, dependency: &str) -> (bool, S
     let manifest = manifest.replace("DEPENDENCY", &dependency);
     fs::write(folder.join("Cargo.toml"), manifest).unwrap();
     let mut cargo = Command::new(env!("CARGO"));
-    cargo.args([
-        command,
-        "--offline",
-        "--message-format=short",
-        "--target-dir",
-    ]);
-    cargo.arg(self::folder("target"));
+    cargo.args([command, "--offline", "--message-format=short"]);
+    cargo.arg("--target-dir").arg(self::folder("target"));
     let output = cargo.current_dir(&folder).output().unwrap();
     let printed = String::from_utf8_lossy(&output.stderr).into_owned();
     (output.status.success(), printed)
@@ -293,19 +254,16 @@ fn results_that_must_be_used() {
     let first = before.lines().count() + 2;
     let is_warned = |line: usize| {
         let place = format!("programs/unused.rs:{line}:");
-        printed
-            .lines()
-            .any(|text| text.contains(&place) && text.contains("unused"))
+        let is_of = |text: &str| text.contains(&place) && text.contains("unused");
+        printed.lines().any(is_of)
     };
-    let statements: Vec<&str> = body
-        .lines()
-        .skip(1)
-        .take_while(|line| *line != "}")
-        .collect();
-    assert!(statements.len() > 40);
-    for (number, statement) in statements.iter().enumerate() {
+    let statements = body.lines().skip(1).take_while(|line| *line != "}");
+    let mut count = 0;
+    for (number, statement) in statements.enumerate() {
         assert!(is_warned(first + number), "{statement}");
+        count += 1;
     }
+    assert!(count > 40);
 }
 
 /// The struct of a stream has as many words as that of the header.

@@ -24,12 +24,9 @@ static LOOKS_AT_ALL: AtomicBool = AtomicBool::new(false);
 
 /// Whether an allocation is that of a text. No others of the program have these lengths.
 fn is_of_text(layout: Layout) -> bool {
-    if LOOKS_AT_ALL.load(SeqCst) {
-        return true;
-    }
     let lengths = [CHUNK_BYTES, PAGE_BYTES, READ_BYTES, RECORD_BYTES];
     let is_one = lengths.contains(&layout.size()) || GROWN.contains(&layout.size());
-    layout.align() == 1 && is_one
+    LOOKS_AT_ALL.load(SeqCst) || layout.align() == 1 && is_one
 }
 const LIMIT: usize = 1 << 20;
 /// What is read in one call, in whole pages, and what a commit gathers for one.
@@ -51,12 +48,6 @@ unsafe impl GlobalAlloc for Counting {
         MOST.fetch_max(NOW.fetch_add(layout.size(), SeqCst) + layout.size(), SeqCst);
         // SAFETY: as above.
         unsafe { System.alloc(layout) }
-    }
-
-    unsafe fn alloc_zeroed(&self, layout: Layout) -> *mut u8 {
-        MOST.fetch_max(NOW.fetch_add(layout.size(), SeqCst) + layout.size(), SeqCst);
-        // SAFETY: as above.
-        unsafe { System.alloc_zeroed(layout) }
     }
 
     unsafe fn dealloc(&self, place: *mut u8, layout: Layout) {
@@ -105,12 +96,8 @@ fn read(path: &Path) {
     let mut file = Raf::<Aegis256>::open_file(path, &[7; 32]).unwrap();
     let mut buffer = [0; 1000];
     let places = (0..file.size()).step_by(buffer.len());
-    assert!(
-        places
-            .map(|at| file.read(&mut buffer, at).unwrap() as u64)
-            .sum::<u64>()
-            > 3_000_000
-    );
+    let counts = places.map(|at| file.read(&mut buffer, at).unwrap());
+    assert!(counts.sum::<usize>() > 3_000_000);
 }
 
 /// Writes 20 pieces and a part of one.
@@ -139,16 +126,19 @@ fn unseal(path: &Path) {
     assert_eq!(buffer, [MARK; 1000]);
 }
 
+/// The beginning of a sealed file, and what seals its records.
+fn begun() -> (Sealer<'static>, Vec<u8>) {
+    let sealer = Sealer::new(&[7; 32], &[1; 24], b"hunkravy v1").unwrap();
+    let file = [&[1; 24][..], &sealer.header()].concat();
+    (sealer, file)
+}
+
 /// A file of a record that is announced as the longest one, of which so many bytes are there.
 fn announced(path: &Path, count: usize) {
-    let mut head = Sealer::new(&[7; 32], &[1; 24], b"hunkravy v1")
-        .unwrap()
-        .header()
-        .to_vec();
-    head.extend([0, 0, 0, 0, 1]);
-    head.splice(0..0, [1; 24]);
-    head.resize(head.len() + count, 0);
-    fs::write(path, head).unwrap();
+    let (_, mut file) = begun();
+    file.extend([0, 0, 0, 0, 1]);
+    file.resize(file.len() + count, 0);
+    fs::write(path, file).unwrap();
 }
 
 fn read_announced(path: &Path) {
@@ -159,18 +149,15 @@ fn read_announced(path: &Path) {
 
 /// Reads longer and longer records.
 fn longer_records() {
-    let mut sealer = Sealer::new(&[7; 32], &[1; 24], b"hunkravy v1").unwrap();
-    let mut file = [&[1; 24][..], &sealer.header()].concat();
+    let (mut sealer, mut file) = begun();
     for length in MESSAGES {
         sealer.seal_next(&vec![MARK; length], &mut file).unwrap();
     }
     sealer.seal_last(&[], &mut file).unwrap();
     let freed = FREED.load(SeqCst);
     let mut reader = SealedReader::new(&file[..], &[7; 32]);
-    assert_eq!(
-        std::io::copy(&mut reader, &mut std::io::sink()).unwrap(),
-        701_100
-    );
+    let count = std::io::copy(&mut reader, &mut std::io::sink());
+    assert_eq!(count.unwrap(), 701_100);
     drop(reader);
     assert_eq!(FREED.load(SeqCst) - freed, GROWN.len() + 1);
 }
@@ -203,8 +190,7 @@ impl Read for Lies<'_> {
 
 /// Reads a record and the head of a longer one, whose other bytes are not written.
 fn record_of_lies() {
-    let mut sealer = Sealer::new(&[7; 32], &[1; 24], b"hunkravy v1").unwrap();
-    let mut file = [&[1; 24][..], &sealer.header()].concat();
+    let (mut sealer, mut file) = begun();
     sealer.seal_next(&[MARK; 1100], &mut file).unwrap();
     file.push(0);
     file.extend(200_000_u32.to_le_bytes());
