@@ -1,8 +1,7 @@
 //! Ciphers: a key and a nonce, for one message or one keystream.
 
 use crate::error::{accepted, done};
-use crate::exports;
-use crate::run::Run;
+use crate::exports::{self, State};
 use crate::variant::assert_tag_bytes;
 use crate::{Decryptor, Encryptor, Error, Tag, Variant};
 use alloc::vec::Vec;
@@ -224,7 +223,7 @@ impl<V: Variant, const TAG_BYTES: usize> Cipher<V, TAG_BYTES> {
     /// ```
     #[track_caller]
     pub fn encryptor(&self, associated_data: &[u8]) -> Encryptor<V, TAG_BYTES> {
-        Encryptor::new(Run::new(&self.key, &self.nonce, associated_data))
+        Encryptor::new(self.begin(associated_data))
     }
 
     /// Begins to decrypt a message in chunks, into `plaintext`, which must have room for the whole message.
@@ -247,8 +246,16 @@ impl<V: Variant, const TAG_BYTES: usize> Cipher<V, TAG_BYTES> {
         associated_data: &[u8],
         plaintext: &'a mut [u8],
     ) -> Decryptor<'a, V, TAG_BYTES> {
-        let run = Run::new(&self.key, &self.nonce, associated_data);
-        Decryptor::new(run, plaintext)
+        Decryptor::new(self.begin(associated_data), plaintext)
+    }
+
+    /// Begins a message.
+    #[track_caller]
+    fn begin(&self, ad: &[u8]) -> State {
+        let mut state = State::ENDED;
+        let (nonce, key) = (self.nonce.as_ref(), self.key.as_ref());
+        done(exports::state_init(V::NUMBER, &mut state, ad, nonce, key));
+        state
     }
 }
 

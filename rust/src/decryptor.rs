@@ -1,8 +1,10 @@
 //! Decrypting a message in chunks.
 
-use crate::run::Run;
+use crate::error::{accepted, done};
+use crate::exports::{self, State};
 use crate::wipe::wipe;
-use crate::{Error, Tag, Variant};
+use crate::{Error, MAX_AEAD_BYTES, Tag, Variant};
+use core::marker::PhantomData;
 use core::{fmt, mem};
 
 /// Decrypts a message in chunks of any lengths, into a destination that it borrows for the whole message.
@@ -31,15 +33,18 @@ use core::{fmt, mem};
 /// ```
 #[must_use = "the message is erased without `finalize`"]
 pub struct Decryptor<'a, V: Variant, const TAG_BYTES: usize> {
-    run: Run<V>,
+    pub(crate) state: State,
+    variant: PhantomData<V>,
     plaintext: &'a mut [u8],
     written: usize,
 }
 
 impl<'a, V: Variant, const TAG_BYTES: usize> Decryptor<'a, V, TAG_BYTES> {
-    pub(crate) fn new(run: Run<V>, plaintext: &'a mut [u8]) -> Self {
+    /// Goes on with a message that was begun.
+    pub(crate) fn new(state: State, plaintext: &'a mut [u8]) -> Self {
         Self {
-            run,
+            state,
+            variant: PhantomData,
             plaintext,
             written: 0,
         }
@@ -65,13 +70,16 @@ impl<'a, V: Variant, const TAG_BYTES: usize> Decryptor<'a, V, TAG_BYTES> {
         let chunk = self.plaintext[self.written..]
             .get_mut(..ciphertext.len())
             .ok_or(Error::OutputBufferTooSmall)?;
-        if ciphertext.len() as u64 > self.run.remaining() {
+        if ciphertext.len() as u64 > MAX_AEAD_BYTES - self.state.message_bytes {
             return Err(Error::MessageTooLong);
         }
         // It is counted first, so that it is erased in any case.
         self.written += ciphertext.len();
         chunk.copy_from_slice(ciphertext);
-        self.run.open_unverified(chunk);
+        done(exports::state_decrypt_in_place_unverified(
+            &mut self.state,
+            chunk,
+        ));
         Ok(())
     }
 
@@ -93,7 +101,7 @@ impl<'a, V: Variant, const TAG_BYTES: usize> Decryptor<'a, V, TAG_BYTES> {
     /// # Ok::<(), Error>(())
     /// ```
     pub fn finalize(mut self, tag: &Tag<TAG_BYTES>) -> Result<&'a mut [u8], Error> {
-        self.run.check_tag(tag)?;
+        accepted(exports::state_decrypt_final(&mut self.state, &mut [], tag))?;
         let written = mem::take(&mut self.written);
         Ok(&mut mem::take(&mut self.plaintext)[..written])
     }

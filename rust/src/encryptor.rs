@@ -1,8 +1,10 @@
 //! Encrypting a message in chunks.
 
-use crate::run::Run;
-use crate::{Tag, Variant};
+use crate::error::done;
+use crate::exports::{self, State};
+use crate::{MAX_AEAD_BYTES, Tag, Variant};
 use core::fmt;
+use core::marker::PhantomData;
 
 /// Encrypts a message in chunks of any lengths: each chunk gives as many bytes of ciphertext, and the end the tag.
 ///
@@ -27,12 +29,17 @@ use core::fmt;
 /// ```
 #[must_use = "the message cannot be decrypted without its tag"]
 pub struct Encryptor<V: Variant, const TAG_BYTES: usize> {
-    run: Run<V>,
+    pub(crate) state: State,
+    variant: PhantomData<V>,
 }
 
 impl<V: Variant, const TAG_BYTES: usize> Encryptor<V, TAG_BYTES> {
-    pub(crate) fn new(run: Run<V>) -> Self {
-        Self { run }
+    /// Goes on with a message that was begun.
+    pub(crate) fn new(state: State) -> Self {
+        Self {
+            state,
+            variant: PhantomData,
+        }
     }
 
     /// Encrypts the next chunk into `ciphertext`, which must have the same length.
@@ -80,7 +87,7 @@ impl<V: Variant, const TAG_BYTES: usize> Encryptor<V, TAG_BYTES> {
     /// ```
     #[track_caller]
     pub fn update_in_place(&mut self, buffer: &mut [u8]) {
-        self.run.seal(buffer);
+        done(exports::state_encrypt_in_place(&mut self.state, buffer));
     }
 
     /// Returns how many more bytes the message may have.
@@ -94,7 +101,7 @@ impl<V: Variant, const TAG_BYTES: usize> Encryptor<V, TAG_BYTES> {
     /// ```
     #[must_use]
     pub fn remaining(&self) -> u64 {
-        self.run.remaining()
+        MAX_AEAD_BYTES - self.state.message_bytes
     }
 
     /// Returns the tag of the message, which authenticates the associated data too.
@@ -107,8 +114,10 @@ impl<V: Variant, const TAG_BYTES: usize> Encryptor<V, TAG_BYTES> {
     /// assert_eq!(tag, cipher.encrypt_in_place(&mut [], b"header"));
     /// ```
     #[must_use = "the message cannot be decrypted without its tag"]
-    pub fn finalize(self) -> Tag<TAG_BYTES> {
-        self.run.tag()
+    pub fn finalize(mut self) -> Tag<TAG_BYTES> {
+        let mut tag = [0; TAG_BYTES];
+        done(exports::state_encrypt_final(&mut self.state, &mut tag));
+        tag
     }
 }
 

@@ -16,6 +16,8 @@ mod error;
 mod exports;
 #[cfg(feature = "std")]
 pub mod files;
+#[cfg(test)]
+mod limits;
 mod mac;
 #[cfg(feature = "std")]
 mod memory;
@@ -24,7 +26,6 @@ pub mod raf;
 #[cfg(feature = "std")]
 mod random;
 pub mod records;
-mod run;
 mod variant;
 mod wipe;
 

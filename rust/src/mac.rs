@@ -1,9 +1,11 @@
 //! MACs of an input in chunks.
 
-use crate::run::Run;
+use crate::error::{accepted, done};
+use crate::exports::{self, State};
 use crate::variant::assert_tag_bytes;
-use crate::{Error, Tag, Variant};
+use crate::{Error, MAX_AEAD_BYTES, Tag, Variant};
 use core::fmt;
+use core::marker::PhantomData;
 
 /// The MAC of an input in chunks of any lengths.
 ///
@@ -24,15 +26,11 @@ use core::fmt;
 /// ```
 #[must_use]
 pub struct Mac<V: Variant, const TAG_BYTES: usize> {
-    run: Run<V>,
+    pub(crate) state: State,
+    variant: PhantomData<V>,
 }
 
 impl<V: Variant, const TAG_BYTES: usize> Mac<V, TAG_BYTES> {
-    pub(crate) fn of(run: Run<V>) -> Self {
-        assert_tag_bytes::<TAG_BYTES>();
-        Self { run }
-    }
-
     /// Begins a MAC under a key, with a zeroed nonce. `TAG_BYTES` is 16 or 32: with another length the
     /// program does not compile.
     ///
@@ -57,7 +55,14 @@ impl<V: Variant, const TAG_BYTES: usize> Mac<V, TAG_BYTES> {
     /// assert_ne!(tag, Aegis256X4Mac::new_with_nonce(&[1; 32], &[3; 32]).finalize());
     /// ```
     pub fn new_with_nonce(key: &V::Key, nonce: &V::Nonce) -> Self {
-        Self::of(Run::of_mac(key, nonce))
+        assert_tag_bytes::<TAG_BYTES>();
+        let mut state = State::ENDED;
+        let (nonce, key) = (nonce.as_ref(), key.as_ref());
+        done(exports::mac_init(V::NUMBER, &mut state, nonce, key));
+        Self {
+            state,
+            variant: PhantomData,
+        }
     }
 
     /// Adds the next chunk of the input.
@@ -74,7 +79,7 @@ impl<V: Variant, const TAG_BYTES: usize> Mac<V, TAG_BYTES> {
     /// ```
     #[track_caller]
     pub fn update(&mut self, data: &[u8]) {
-        self.run.absorb(data);
+        done(exports::mac_update(&mut self.state, data));
     }
 
     /// Returns how many more bytes the input may have.
@@ -88,7 +93,7 @@ impl<V: Variant, const TAG_BYTES: usize> Mac<V, TAG_BYTES> {
     /// ```
     #[must_use]
     pub fn remaining(&self) -> u64 {
-        self.run.remaining()
+        MAX_AEAD_BYTES - self.state.message_bytes
     }
 
     /// Returns the MAC of the input.
@@ -103,7 +108,9 @@ impl<V: Variant, const TAG_BYTES: usize> Mac<V, TAG_BYTES> {
     /// ```
     #[must_use]
     pub fn finalize(self) -> Tag<TAG_BYTES> {
-        self.run.mac()
+        let mut mac = [0; TAG_BYTES];
+        done(exports::mac_final(&self.state, &mut mac));
+        mac
     }
 
     /// Checks that `expected` is the MAC of the input. The comparison does not stop at the first difference.
@@ -120,14 +127,15 @@ impl<V: Variant, const TAG_BYTES: usize> Mac<V, TAG_BYTES> {
     /// assert_eq!(mac.verify(&[0; 32]), Err(Error::InvalidTag));
     /// ```
     pub fn verify(self, expected: &Tag<TAG_BYTES>) -> Result<(), Error> {
-        self.run.check_mac(expected)
+        accepted(exports::mac_final_verify(&self.state, expected))
     }
 }
 
 impl<V: Variant, const TAG_BYTES: usize> Clone for Mac<V, TAG_BYTES> {
     fn clone(&self) -> Self {
         Self {
-            run: self.run.clone(),
+            state: self.state.clone(),
+            variant: PhantomData,
         }
     }
 }
