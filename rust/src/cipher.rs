@@ -5,7 +5,6 @@ use crate::exports::{self, State};
 use crate::variant::assert_tag_bytes;
 use crate::{Decryptor, Encryptor, Error, Tag, Variant};
 use alloc::vec::Vec;
-use core::fmt;
 
 /// A cipher with tags of `TAG_BYTES` bytes, 16 or 32: a key and a nonce.
 ///
@@ -267,10 +266,4 @@ impl<V: Variant + Copy, const TAG_BYTES: usize> Clone for Cipher<V, TAG_BYTES> {
 
 impl<V: Variant + Copy, const TAG_BYTES: usize> Copy for Cipher<V, TAG_BYTES> {}
 
-/// The type's name, and nothing of the key.
-impl<V: Variant, const TAG_BYTES: usize> fmt::Debug for Cipher<V, TAG_BYTES> {
-    fn fmt(&self, f: &mut fmt::Formatter<'_>) -> fmt::Result {
-        f.write_str(V::CIPHER)?;
-        f.write_str(" { .. }")
-    }
-}
+debug_as!([V: Variant, const TAG_BYTES: usize] Cipher<V, TAG_BYTES>, V::CIPHER);

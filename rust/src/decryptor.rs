@@ -5,7 +5,7 @@ use crate::exports::{self, State};
 use crate::wipe::wipe;
 use crate::{Error, MAX_AEAD_BYTES, Tag, Variant};
 use core::marker::PhantomData;
-use core::{fmt, mem};
+use core::mem;
 
 /// Decrypts a message in chunks of any lengths, into a destination that it borrows for the whole message.
 ///
@@ -114,10 +114,4 @@ impl<V: Variant, const TAG_BYTES: usize> Drop for Decryptor<'_, V, TAG_BYTES> {
     }
 }
 
-/// The module's name, and nothing of the state or the destination.
-impl<V: Variant, const TAG_BYTES: usize> fmt::Debug for Decryptor<'_, V, TAG_BYTES> {
-    fn fmt(&self, f: &mut fmt::Formatter<'_>) -> fmt::Result {
-        f.write_str(V::MODULE)?;
-        f.write_str("::Decryptor { .. }")
-    }
-}
+debug_as!([V: Variant, const TAG_BYTES: usize] Decryptor<'_, V, TAG_BYTES>, V::MODULE, "::Decryptor");

@@ -3,7 +3,6 @@
 use crate::error::done;
 use crate::exports::{self, State};
 use crate::{MAX_AEAD_BYTES, Tag, Variant};
-use core::fmt;
 use core::marker::PhantomData;
 
 /// Encrypts a message in chunks of any lengths: each chunk gives as many bytes of ciphertext, and the end the tag.
@@ -121,10 +120,4 @@ impl<V: Variant, const TAG_BYTES: usize> Encryptor<V, TAG_BYTES> {
     }
 }
 
-/// The module's name, and nothing of the state.
-impl<V: Variant, const TAG_BYTES: usize> fmt::Debug for Encryptor<V, TAG_BYTES> {
-    fn fmt(&self, f: &mut fmt::Formatter<'_>) -> fmt::Result {
-        f.write_str(V::MODULE)?;
-        f.write_str("::Encryptor { .. }")
-    }
-}
+debug_as!([V: Variant, const TAG_BYTES: usize] Encryptor<V, TAG_BYTES>, V::MODULE, "::Encryptor");

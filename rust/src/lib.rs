@@ -9,6 +9,19 @@ extern crate alloc;
 #[cfg(feature = "std")]
 extern crate std;
 
+/// Shows a type by its name, and nothing of what it holds.
+macro_rules! debug_as {
+    ([$($generics:tt)*] $type:ty, $($name:expr),*) => {
+        /// The type's name, and nothing of what it holds.
+        impl<$($generics)*> core::fmt::Debug for $type {
+            fn fmt(&self, f: &mut core::fmt::Formatter<'_>) -> core::fmt::Result {
+                $(f.write_str($name)?;)*
+                f.write_str(" { .. }")
+            }
+        }
+    };
+}
+
 mod cipher;
 mod decryptor;
 mod encryptor;

@@ -4,7 +4,6 @@ use crate::error::{accepted, done};
 use crate::exports::{self, State};
 use crate::variant::assert_tag_bytes;
 use crate::{Error, MAX_AEAD_BYTES, Tag, Variant};
-use core::fmt;
 use core::marker::PhantomData;
 
 /// The MAC of an input in chunks of any lengths.
@@ -140,10 +139,4 @@ impl<V: Variant, const TAG_BYTES: usize> Clone for Mac<V, TAG_BYTES> {
     }
 }
 
-/// The type's name, and nothing of the state.
-impl<V: Variant, const TAG_BYTES: usize> fmt::Debug for Mac<V, TAG_BYTES> {
-    fn fmt(&self, f: &mut fmt::Formatter<'_>) -> fmt::Result {
-        f.write_str(V::CIPHER)?;
-        f.write_str("Mac { .. }")
-    }
-}
+debug_as!([V: Variant, const TAG_BYTES: usize] Mac<V, TAG_BYTES>, V::CIPHER, "Mac");

@@ -7,32 +7,11 @@ macro_rules! programs {
     ($($module:ident $cipher:ident $mac:ident $key_bytes:literal,)*) => {$(
         mod $module {
             use super::aegis::$module::{
-                $cipher, $mac, Decryptor, Encryptor, Error, Key, Nonce, Tag,
+                $cipher, $mac, Decryptor, Encryptor, Key, Nonce, Tag,
             };
 
             const KEY: Key = [7; $key_bytes];
             const NONCE: Nonce = [9; $key_bytes];
-            const MESSAGE: &[u8] = b"Ladies and Gentlemen of the class of '99";
-            const AD: &[u8] = b"Comment numero un";
-
-            #[test]
-            fn at_once() {
-                let (c, tag) = $cipher::<16>::new(&KEY, &NONCE).encrypt(MESSAGE, AD);
-                let m = $cipher::<16>::new(&KEY, &NONCE).decrypt(&c, &tag, AD).unwrap();
-                assert_eq!(m, MESSAGE);
-
-                let mut mc = MESSAGE.to_vec();
-                let tag_in_place = $cipher::<16>::new(&KEY, &NONCE).encrypt_in_place(&mut mc, AD);
-                assert_eq!((mc, tag_in_place), (c.clone(), tag));
-
-                let mut wrong: Tag<16> = tag;
-                wrong[0] ^= 1;
-                match $cipher::<16>::new(&KEY, &NONCE).decrypt(&c, &wrong, AD) {
-                    Err(Error::InvalidTag) => (),
-                    Err(Error::OutputBufferTooSmall | Error::MessageTooLong) => unreachable!(),
-                    Ok(_) => panic!("a wrong tag was accepted"),
-                }
-            }
 
             /// Holds what the chunked calls return, as a program's own types do.
             struct Session<'a> {
@@ -50,7 +29,7 @@ macro_rules! programs {
                 };
                 session.encryptor.update(b"AEGIS", &mut ciphertext[..5]);
                 session.encryptor.update(b" is fast", &mut ciphertext[5..]);
-                let tag = session.encryptor.finalize();
+                let tag: Tag<32> = session.encryptor.finalize();
                 session.decryptor.update(&ciphertext[..7])?;
                 session.decryptor.update(&ciphertext[7..])?;
                 let plaintext = session.decryptor.finalize(&tag)?;
@@ -61,35 +40,6 @@ macro_rules! programs {
                 encryptor.update_in_place(&mut buffer);
                 assert_eq!((buffer, encryptor.finalize()), (ciphertext, tag));
                 Ok(())
-            }
-
-            #[test]
-            fn streams() {
-                let mut out = [0xa5; 515];
-                $cipher::<16>::new(&KEY, &NONCE).stream(&mut out);
-                let mut zeros = [0; 515];
-                let cipher = $cipher::<32>::new(&KEY, &NONCE);
-                let _tag = cipher.encrypt_in_place(&mut zeros, &[]);
-                assert_eq!(out, zeros);
-
-                let mut mc = MESSAGE.to_vec();
-                $cipher::<16>::new(&KEY, &NONCE).stream_xor_in_place(&mut mc);
-                assert_eq!($cipher::<16>::new(&KEY, &NONCE).stream_xor(MESSAGE), mc);
-                assert_eq!($cipher::<16>::new(&KEY, &NONCE).stream_xor(&mc), MESSAGE);
-            }
-
-            #[test]
-            fn macs() {
-                let mut mac = $mac::<32>::new(&KEY);
-                let zero_nonce = $mac::<32>::new_with_nonce(&KEY, &[0; $key_bytes]);
-                assert_eq!(mac.clone().finalize(), zero_nonce.finalize());
-                let before = mac.clone();
-                mac.update(MESSAGE);
-                let tag = mac.clone().finalize();
-                assert!(mac.verify(&tag).is_ok());
-                assert_eq!(before.verify(&tag), Err(Error::InvalidTag));
-                let other = $mac::<32>::new_with_nonce(&KEY, &NONCE);
-                assert!(other.verify(&tag).is_err());
             }
 
             #[test]
@@ -143,13 +93,14 @@ fn threads() {
 
 #[test]
 fn errors() {
-    use aegis::Error;
-    let texts = [
-        (Error::InvalidTag, "Invalid tag"),
-        (Error::OutputBufferTooSmall, "Output buffer too small"),
-        (Error::MessageTooLong, "Message too long"),
-    ];
-    for (error, text) in texts {
+    use aegis::Error::{self, InvalidTag, MessageTooLong, OutputBufferTooSmall};
+    for error in [InvalidTag, OutputBufferTooSmall, MessageTooLong] {
+        // There are no others.
+        let text = match error {
+            Error::InvalidTag => "Invalid tag",
+            Error::OutputBufferTooSmall => "Output buffer too small",
+            Error::MessageTooLong => "Message too long",
+        };
         assert_eq!(error.to_string(), text);
         let source: Box<dyn std::error::Error> = error.into();
         assert!(source.source().is_none());

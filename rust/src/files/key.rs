@@ -76,6 +76,7 @@ fn digit(byte: u8) -> Option<u8> {
 mod tests {
     use super::{key_of, read_all, read_key};
     use alloc::format;
+    use alloc::string::String;
     use core::mem::MaybeUninit;
     use std::io::{self, ErrorKind, Read};
     use std::path::Path;
@@ -84,35 +85,19 @@ mod tests {
     fn key_is_64_digits_and_white_space() {
         let digits = "00fF1aA2".repeat(8);
         let key = key_of(digits.as_bytes()).unwrap();
-        assert_eq!(key[..8], [0, 0xff, 0x1a, 0xa2, 0, 0xff, 0x1a, 0xa2]);
-        for end in [
-            "",
-            "\n",
-            "\r\n",
-            "  ",
-            "\t\n",
-            "\u{b}\u{c}",
-            "\u{85}",
-            "\u{a0}",
-        ] {
-            assert_eq!(
-                key_of(format!("{digits}{end}").as_bytes()),
-                Some(key),
-                "{end:?}"
-            );
+        assert_eq!(key, [0, 0xff, 0x1a, 0xa2].repeat(8)[..]);
+        for end in "|\n|\r\n|  |\t\n|\u{b}\u{c}|\u{85}|\u{a0}".split('|') {
+            let found = key_of(format!("{digits}{end}").as_bytes());
+            assert_eq!(found, Some(key), "{end:?}");
         }
         for end in ["\n\n\n", "0", "\0", ".", "\n.", "\u{2028}"] {
             assert_eq!(key_of(format!("{digits}{end}").as_bytes()), None, "{end:?}");
         }
-        for bytes in ["", "\n", &digits[1..], &digits[2..], &format!(" {digits}")] {
+        let wrong = "gG/:@` +-".chars();
+        let wrong = wrong.map(|wrong| digits.replacen('0', &String::from(wrong), 1));
+        let others = ["", "\n", &digits[1..], &digits[2..], &format!(" {digits}")];
+        for bytes in wrong.chain(others.map(String::from)) {
             assert_eq!(key_of(bytes.as_bytes()), None, "{bytes:?}");
-        }
-        for wrong in ["g", "G", "/", ":", "@", "`", " ", "+", "-"] {
-            assert_eq!(
-                key_of(digits.replacen('0', wrong, 1).as_bytes()),
-                None,
-                "{wrong:?}"
-            );
         }
         let mut bytes = digits.into_bytes();
         bytes[5] = 0xff;

@@ -4,7 +4,6 @@ use super::{CONTEXT, HEAD_BYTES, Key, PIECE_BYTES};
 use crate::records::{Error, Opener, Prefix, RECORD_BYTES, RECORD_HEAD_BYTES};
 use crate::wipe::Wiped;
 use alloc::vec::Vec;
-use core::fmt;
 use std::io::{self, BufRead, ErrorKind, Read};
 
 /// The number of bytes by which memory for a record is taken first: those of a record of a whole piece.
@@ -285,9 +284,4 @@ impl<R: Read> BufRead for SealedReader<R> {
     }
 }
 
-/// The type's name, and nothing of the contents.
-impl<R> fmt::Debug for SealedReader<R> {
-    fn fmt(&self, f: &mut fmt::Formatter<'_>) -> fmt::Result {
-        f.write_str("SealedReader { .. }")
-    }
-}
+debug_as!([R] SealedReader<R>, "SealedReader");

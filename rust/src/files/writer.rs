@@ -6,7 +6,6 @@ use crate::random::fill_random;
 use crate::records::{Prefix, RECORD_BYTES, RECORD_HEAD_BYTES, Sealer};
 use crate::wipe::Wiped;
 use alloc::vec::Vec;
-use core::fmt;
 use std::io::{self, Write};
 
 /// Encrypts bytes into a sealed file, which it writes to an inner writer.
@@ -132,9 +131,4 @@ impl<W: Write> Write for SealedWriter<W> {
     }
 }
 
-/// The type's name, and nothing of the contents.
-impl<W: Write> fmt::Debug for SealedWriter<W> {
-    fn fmt(&self, f: &mut fmt::Formatter<'_>) -> fmt::Result {
-        f.write_str("SealedWriter { .. }")
-    }
-}
+debug_as!([W: Write] SealedWriter<W>, "SealedWriter");

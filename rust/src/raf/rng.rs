@@ -1,6 +1,8 @@
 //! Sources of random bytes.
 
 use super::{Algorithm, Error, Result};
+#[cfg(feature = "raf")]
+use std::io::Read;
 use std::io::{self, ErrorKind};
 
 /// A source of random bytes, for nonces and ids.
@@ -35,7 +37,7 @@ impl RafRng for OsRng {
             Some(file) => file,
             none => none.insert(crate::random::open()?),
         };
-        Ok(crate::random::fill(file, buf)?)
+        Ok(file.read_exact(buf)?)
     }
 }
 

@@ -5,7 +5,6 @@ use super::{Error, HEADER_BYTES, Key, Position, Prefix, RECORD_BYTES, RECORD_HEA
 use crate::exports::{Records, Refusal};
 use crate::exports::{record_begin_open, record_begin_open_at, record_len, record_open};
 use alloc::vec::Vec;
-use core::fmt;
 
 /// A record that was opened.
 #[derive(Clone, Debug, PartialEq, Eq)]
@@ -286,9 +285,4 @@ impl<'c> Opener<'c> {
     }
 }
 
-/// The type's name, and nothing of the state.
-impl fmt::Debug for Opener<'_> {
-    fn fmt(&self, f: &mut fmt::Formatter<'_>) -> fmt::Result {
-        f.write_str("Opener { .. }")
-    }
-}
+debug_as!([] Opener<'_>, "Opener");

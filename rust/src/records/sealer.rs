@@ -5,7 +5,6 @@ use super::{Error, HEADER_BYTES, Key, MAX_MESSAGE_BYTES, Prefix, RECORD_BYTES, R
 use crate::exports::{Records, Refusal, record_begin};
 use crate::wipe::wipe;
 use alloc::vec::Vec;
-use core::fmt;
 
 /// Encrypts the messages of a stream. Its state is overwritten when it is dropped.
 ///
@@ -161,12 +160,7 @@ impl<'c> Sealer<'c> {
     }
 }
 
-/// The type's name, and nothing of the state.
-impl fmt::Debug for Sealer<'_> {
-    fn fmt(&self, f: &mut fmt::Formatter<'_>) -> fmt::Result {
-        f.write_str("Sealer { .. }")
-    }
-}
+debug_as!([] Sealer<'_>, "Sealer");
 
 /// The limit on the length of a stream, which is more than any buffer has.
 #[cfg(test)]

@@ -169,30 +169,6 @@ fn each_call_of_a_creation() {
     }
 }
 
-/// Several commits in a row: a crash in one of them gives the text of before it or the one after it, and no older one.
-#[test]
-fn each_call_of_several_commits() {
-    let (bytes, first) = begun();
-    let mut random = Random(78);
-    let disks = Disks::of(bytes.clone());
-    let mut file = disks.open().unwrap();
-    disks.log().calls.clear();
-    let (mut texts, mut ends) = (vec![first], vec![0]);
-    for change in CHANGES.iter().cycle().skip(4).take(6) {
-        change(&mut file).unwrap();
-        file.commit().unwrap();
-        texts.push(text_of(&mut file));
-        ends.push(disks.calls());
-    }
-    let calls = disks.log().calls.clone();
-    for count in (0..=calls.len()).flat_map(|count| [count; 3]) {
-        let commit = ends.iter().rposition(|end| *end <= count).unwrap();
-        let next = (commit + 1).min(texts.len() - 1);
-        let left = crashed(&bytes, &calls[..count], &mut random);
-        check_opens(&left, &texts[commit], &texts[next]);
-    }
-}
-
 /// A call that fails in a commit breaks the file, which opens to the text of before or the one after. If it was to make
 /// the file longer, the changes are still in memory.
 #[test]

@@ -8,20 +8,6 @@ use std::io::{Read, Seek, SeekFrom, Write};
 use std::os::unix::fs::symlink;
 use std::process::Command;
 
-#[test]
-fn a_file_has_no_journal_between_commits() {
-    let folder = Folder::new();
-    let mut file = folder.create().unwrap();
-    for turn in 0..3 {
-        assert_eq!(folder.names(), ["file"]);
-        file.write(b"text", turn).unwrap();
-        file.commit().unwrap();
-    }
-    drop(file);
-    assert_eq!(folder.text(), b"tttext");
-    assert_eq!(folder.names(), ["file"]);
-}
-
 /// A whole journal that lies beside a file is completed, and a torn one is left out; both are then gone.
 #[test]
 fn journals_beside_a_file() {
