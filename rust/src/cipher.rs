@@ -47,13 +47,6 @@ pub struct Cipher<V: Variant, const TAG_BYTES: usize> {
 impl<V: Variant, const TAG_BYTES: usize> Cipher<V, TAG_BYTES> {
     /// Returns the cipher of a key and a nonce. `TAG_BYTES` is 16 or 32: with another length the program does not compile.
     ///
-    /// ```
-    /// use hunkravy::aegis256::Aegis256;
-    ///
-    /// let cipher = Aegis256::<32>::new(&[1; 32], &[2; 32]);
-    /// assert_eq!(format!("{cipher:?}"), "Aegis256 { .. }");
-    /// ```
-    ///
     /// ```compile_fail,E0080
     /// hunkravy::aegis256::Aegis256::<24>::new(&[1; 32], &[2; 32]);
     /// ```
@@ -66,13 +59,6 @@ impl<V: Variant, const TAG_BYTES: usize> Cipher<V, TAG_BYTES> {
     }
 
     /// Encrypts a message. Returns its ciphertext and its tag, which authenticates the associated data `ad` too.
-    ///
-    /// ```
-    /// use hunkravy::aegis128x2::Aegis128X2;
-    ///
-    /// let (ciphertext, tag) = Aegis128X2::<32>::new(&[1; 16], &[2; 16]).encrypt(b"a message", b"header");
-    /// assert_eq!((ciphertext.len(), tag.len()), (9, 32));
-    /// ```
     #[track_caller]
     #[must_use = "the message cannot be decrypted without its tag"]
     pub fn encrypt(self, m: &[u8], ad: &[u8]) -> (Vec<u8>, Tag<TAG_BYTES>) {
@@ -211,34 +197,12 @@ impl<V: Variant, const TAG_BYTES: usize> Cipher<V, TAG_BYTES> {
     }
 
     /// Begins to encrypt a message in chunks.
-    ///
-    /// ```
-    /// use hunkravy::aegis128l::Aegis128L;
-    ///
-    /// let mut chunk = *b"AEGIS";
-    /// let mut encryptor = Aegis128L::<16>::new(&[1; 16], &[2; 16]).encryptor(b"header");
-    /// encryptor.update_in_place(&mut chunk);
-    /// let tag = encryptor.finalize();
-    /// ```
     #[track_caller]
     pub fn encryptor(&self, associated_data: &[u8]) -> Encryptor<V, TAG_BYTES> {
         Encryptor::new(self.begin(associated_data))
     }
 
     /// Begins to decrypt a message in chunks, into `plaintext`, which must have room for the whole message.
-    ///
-    /// ```
-    /// use hunkravy::aegis128l::{Aegis128L, Error};
-    ///
-    /// let cipher = Aegis128L::<16>::new(&[1; 16], &[2; 16]);
-    /// let (ciphertext, tag) = Aegis128L::<16>::new(&[1; 16], &[2; 16]).encrypt(b"AEGIS", b"header");
-    ///
-    /// let mut buffer = [0; 5];
-    /// let mut decryptor = cipher.decryptor(b"header", &mut buffer);
-    /// decryptor.update(&ciphertext)?;
-    /// assert_eq!(decryptor.finalize(&tag)?, b"AEGIS");
-    /// # Ok::<(), Error>(())
-    /// ```
     #[track_caller]
     pub fn decryptor<'a>(
         &self,

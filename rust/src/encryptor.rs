@@ -75,15 +75,6 @@ impl<V: Variant, const TAG_BYTES: usize> Encryptor<V, TAG_BYTES> {
     /// # Panics
     ///
     /// If the message is then longer than [`MAX_AEAD_BYTES`](crate::MAX_AEAD_BYTES). Nothing has changed then.
-    ///
-    /// ```
-    /// use hunkravy::aegis256::Aegis256;
-    ///
-    /// let mut encryptor = Aegis256::<32>::new(&[1; 32], &[2; 32]).encryptor(b"header");
-    /// let mut chunk = *b"AEGIS";
-    /// encryptor.update_in_place(&mut chunk);
-    /// assert_ne!(&chunk, b"AEGIS");
-    /// ```
     #[track_caller]
     pub fn update_in_place(&mut self, buffer: &mut [u8]) {
         done(exports::state_encrypt_in_place(&mut self.state, buffer));

@@ -4,10 +4,6 @@ use crate::exports::{Answer, Refusal};
 use core::fmt;
 
 /// The most bytes of associated data, of a message and of a MAC's input: 2^61 - 1, so that a length in bits fits 64 bits.
-///
-/// ```
-/// assert_eq!(hunkravy::MAX_AEAD_BYTES, (1 << 61) - 1);
-/// ```
 pub const MAX_AEAD_BYTES: u64 = (1 << 61) - 1;
 
 /// The error of a function on messages and MACs.

@@ -69,13 +69,6 @@ impl<V: Variant, const TAG_BYTES: usize> Mac<V, TAG_BYTES> {
     /// # Panics
     ///
     /// If the input is then longer than [`MAX_AEAD_BYTES`](crate::MAX_AEAD_BYTES). Nothing has changed then.
-    ///
-    /// ```
-    /// use hunkravy::aegis128x2::Aegis128X2Mac;
-    ///
-    /// let mut mac = Aegis128X2Mac::<16>::new(&[1; 16]);
-    /// mac.update(b"the input");
-    /// ```
     #[track_caller]
     pub fn update(&mut self, data: &[u8]) {
         done(exports::mac_update(&mut self.state, data));

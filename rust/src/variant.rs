@@ -1,10 +1,6 @@
 //! The six variants: what tells them apart, and a module for each.
 
 /// A tag of an authenticated message, or a MAC.
-///
-/// ```
-/// let tag: hunkravy::Tag<16> = [0; 16];
-/// ```
 pub type Tag<const TAG_BYTES: usize> = [u8; TAG_BYTES];
 
 /// A variant of AEGIS. The types of [`variants`] implement it, and are the first parameter of [`Cipher`](crate::Cipher),
@@ -24,17 +20,9 @@ pub type Tag<const TAG_BYTES: usize> = [u8; TAG_BYTES];
 /// ```
 pub trait Variant: sealed::Sealed {
     /// A key.
-    ///
-    /// ```
-    /// let key: <hunkravy::variants::Aegis256 as hunkravy::Variant>::Key = [0; 32];
-    /// ```
     type Key: AsRef<[u8]> + AsMut<[u8]> + Copy + Default;
 
     /// A nonce, which has the length of a key.
-    ///
-    /// ```
-    /// let nonce: <hunkravy::variants::Aegis256 as hunkravy::Variant>::Nonce = [0; 32];
-    /// ```
     type Nonce: AsRef<[u8]> + AsMut<[u8]> + Copy + Default;
 }
 
@@ -119,27 +107,12 @@ macro_rules! variants {
             pub use crate::{Error, Tag};
 
             #[doc = concat!("A key of ", $standard, ".")]
-            ///
-            /// ```
-            #[doc = concat!("let key: hunkravy::", stringify!($module), "::Key = [1; ", $bytes, "];")]
-            /// ```
             pub type Key = [u8; $bytes];
 
             #[doc = concat!("A nonce of ", $standard, ", to be used once under a key.")]
-            ///
-            /// ```
-            #[doc = concat!("let nonce: hunkravy::", stringify!($module), "::Nonce = [2; ", $bytes, "];")]
-            /// ```
             pub type Nonce = [u8; $bytes];
 
             #[doc = concat!($standard, " under a key and a nonce. [`Cipher`](crate::Cipher) has its functions.")]
-            ///
-            /// ```
-            #[doc = concat!("use hunkravy::", stringify!($module), "::", stringify!($cipher), ";")]
-            ///
-            #[doc = concat!("let cipher = ", stringify!($cipher), "::<32>::new(&[1; ", $bytes, "], &[2; ", $bytes, "]);")]
-            /// let (ciphertext, tag) = cipher.encrypt(b"a message", b"header");
-            /// ```
             pub type $cipher<const TAG_BYTES: usize> = crate::Cipher<crate::variants::$cipher, TAG_BYTES>;
 
             #[doc = concat!("Encrypts a message of ", $standard, " in chunks.")]

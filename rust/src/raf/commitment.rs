@@ -31,7 +31,7 @@ impl<A: Algorithm, I: RafIo, R: RafRng, J: RafIo> Raf<A, I, R, J> {
     fn commitment_mac(&mut self) -> Result<Mac<A, 32>> {
         self.check_is_usable()?;
         let nonce = commitment_nonce::<A>();
-        let mut mac = Mac::<A, 32>::new_with_nonce(&self.layout.key, &nonce);
+        let mut mac = Mac::<A, 32>::new_with_nonce(&self.layout.key.0, &nonce);
         mac.update(&self.layout.plaintext_header());
         mac.update(&self.counter.to_le_bytes());
         mac.update(&self.stored.to_le_bytes());

@@ -3,7 +3,7 @@
 use super::Algorithm;
 use super::journal::{JournalSeal, NONCE_BYTES};
 use crate::exports;
-use crate::wipe::wipe;
+use crate::wipe::Wiped;
 
 /// How many bytes are read in one call, at most, unless a page has more.
 const READ_BYTES: usize = 64 * 1024;
@@ -31,9 +31,9 @@ pub struct PageHeader {
     pub contents_len: u64,
 }
 
-/// The key, the page size and the id of a file. The key is overwritten when it is dropped.
+/// The key, the page size and the id of a file.
 pub struct Layout<A: Algorithm> {
-    pub key: A::Key,
+    pub key: Wiped<A::Key>,
     pub chunk_size: u32,
     pub id: [u8; ID_BYTES],
 }
@@ -42,7 +42,7 @@ impl<A: Algorithm> Layout<A> {
     /// The layout that a header names.
     pub fn of(key: &A::Key, header: &PageHeader) -> Self {
         Layout {
-            key: *key,
+            key: Wiped(*key),
             chunk_size: header.page_size,
             id: header.id,
         }
@@ -82,21 +82,21 @@ impl<A: Algorithm> Layout<A> {
 
     /// Seals the page of this number, whose contents are in its place.
     pub fn seal(&self, number: u64, nonce: &A::Nonce, page: &mut [u8]) {
-        let (nonce, key) = (nonce.as_ref(), self.key.as_ref());
+        let (nonce, key) = (nonce.as_ref(), self.key.0.as_ref());
         let answer = exports::page_seal(A::NUMBER, page, &self.id, number, nonce, key);
         assert_eq!(answer, Ok(()), "the lengths and the number are right");
     }
 
     /// Opens the page of this number. If it was not sealed under it, each byte is erased.
     pub fn open(&self, number: u64, page: &mut [u8]) -> bool {
-        let answer = exports::page_open(A::NUMBER, page, &self.id, number, self.key.as_ref());
+        let answer = exports::page_open(A::NUMBER, page, &self.id, number, self.key.0.as_ref());
         answer.is_ok()
     }
 
     /// Returns the block of the header of this counter, for contents of `size` bytes.
     pub fn header(&self, counter: u64, size: u64, nonce: &A::Nonce) -> [u8; HEADER_BLOCK_BYTES] {
         let mut block = [0; HEADER_BLOCK_BYTES];
-        let (nonce, key) = (nonce.as_ref(), self.key.as_ref());
+        let (nonce, key) = (nonce.as_ref(), self.key.0.as_ref());
         let (page_size, id) = (self.chunk_size, &self.id);
         let answer = exports::page_header_seal(
             A::NUMBER,
@@ -116,7 +116,7 @@ impl<A: Algorithm> Layout<A> {
     pub fn journal(&self, nonce: &[u8; NONCE_BYTES]) -> JournalSeal {
         let mut seal = JournalSeal::default();
         let (st, start) = (&mut seal.state, &mut seal.start);
-        let (size, id, key) = (self.chunk_size, &self.id, self.key.as_ref());
+        let (size, id, key) = (self.chunk_size, &self.id, self.key.0.as_ref());
         let answer = exports::journal_init(A::NUMBER, st, size, id, nonce, key, start);
         assert_eq!(answer, Ok(()), "the chunk size and the lengths are right");
         seal
@@ -130,12 +130,6 @@ impl<A: Algorithm> Layout<A> {
         plaintext[5..9].copy_from_slice(&self.chunk_size.to_le_bytes());
         plaintext[9..].copy_from_slice(&self.id);
         plaintext
-    }
-}
-
-impl<A: Algorithm> Drop for Layout<A> {
-    fn drop(&mut self) {
-        wipe(self.key.as_mut());
     }
 }
 
@@ -184,20 +178,13 @@ pub fn commitment_nonce<A: Algorithm>() -> A::Nonce {
 #[cfg(test)]
 mod tests {
     use super::{Layout, PageHeader};
-    use crate::raf::{Aegis128L, Aegis256};
+    use crate::raf::Aegis256;
     use crate::wipe::tests::left_of;
 
     /// Nothing of the key is left.
     #[test]
     fn a_layout_that_was_dropped() {
-        let header = PageHeader::default();
-        let key = left_of(Layout::<Aegis256>::of(&[7; 32], &header), |layout| {
-            &layout.key
-        });
-        assert_eq!(key, [0; 32]);
-        let key = left_of(Layout::<Aegis128L>::of(&[7; 16], &header), |layout| {
-            &layout.key
-        });
-        assert_eq!(key, [0; 16]);
+        let layout = Layout::<Aegis256>::of(&[7; 32], &PageHeader::default());
+        assert_eq!(left_of(layout, |layout| &layout.key.0), [0; 32]);
     }
 }

@@ -192,22 +192,6 @@ impl<'c> Opener<'c> {
     ///
     /// Those of [`open_next`](Self::open_next). After [`Error::Damaged`] each byte of the record is
     /// [`ERASED`](crate::ERASED). After any other error `bytes` is unchanged.
-    ///
-    /// ```
-    /// use hunkravy::records::{Error, HEADER_BYTES, Opener, Sealer};
-    ///
-    /// let (key, prefix) = ([1; 32], [2; 24]);
-    /// let mut sealer = Sealer::new(&key, &prefix, b"context")?;
-    /// let mut stream = sealer.header().to_vec();
-    /// sealer.seal_last(b"a message", &mut stream)?;
-    ///
-    /// let (header, bytes) = stream.split_at_mut(HEADER_BYTES);
-    /// let mut opener = Opener::new(&key, &prefix, b"context", header)?;
-    /// let opened = opener.open_next_in_place(bytes)?;
-    /// assert_eq!(opened.message, b"a message");
-    /// assert!(opened.is_last && opened.rest.is_empty());
-    /// # Ok::<(), Error>(())
-    /// ```
     pub fn open_next_in_place<'b>(
         &mut self,
         bytes: &'b mut [u8],

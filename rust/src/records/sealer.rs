@@ -35,14 +35,6 @@ impl<'c> Sealer<'c> {
     /// # Errors
     ///
     /// [`Error::ContextTooLong`].
-    ///
-    /// ```
-    /// use hunkravy::records::{Error, MAX_CONTEXT_BYTES, Sealer};
-    ///
-    /// let context = [0; MAX_CONTEXT_BYTES + 1];
-    /// let refused = Sealer::new(&[1; 32], &[2; 24], &context).map(|_| ());
-    /// assert_eq!(refused, Err(Error::ContextTooLong));
-    /// ```
     pub fn new(key: &Key, prefix: &Prefix, context: &'c [u8]) -> Result<Self, Error> {
         let (mut records, mut header) = (Records::ENDED, [0; HEADER_BYTES]);
         let begun = record_begin(&mut records, key, prefix, context, &mut header);
@@ -61,17 +53,6 @@ impl<'c> Sealer<'c> {
     /// # Errors
     ///
     /// [`Error::TooLong`], [`Error::StreamTooLong`], [`Error::Ended`] or [`Error::OutOfMemory`]. Nothing has changed then.
-    ///
-    /// ```
-    /// use hunkravy::records::{Error, MAX_MESSAGE_BYTES, Sealer};
-    ///
-    /// let mut sealer = Sealer::new(&[1; 32], &[2; 24], b"")?;
-    /// let mut stream = sealer.header().to_vec();
-    /// let message = vec![0; MAX_MESSAGE_BYTES + 1];
-    /// assert_eq!(sealer.seal_next(&message, &mut stream), Err(Error::TooLong));
-    /// assert_eq!(stream, sealer.header());
-    /// # Ok::<(), Error>(())
-    /// ```
     pub fn seal_next(&mut self, message: &[u8], stream: &mut Vec<u8>) -> Result<(), Error> {
         self.append(message, stream, false)
     }

@@ -146,7 +146,7 @@ fn a_large_file_that_is_no_journal() {
     assert_eq!(outcome(folder.open()), "Header");
 }
 
-/// What lies at the journal's path and is no journal is left alone, and so is the file.
+/// What lies at the journal's path and is no journal is left alone, and so is the file. No commit is made, until it is gone.
 #[test]
 fn what_is_no_journal() {
     let puts: [(Done, &str); 7] = [
@@ -158,7 +158,7 @@ fn what_is_no_journal() {
             |at| fs::hard_link(at.path("other"), at.journal()),
             "InvalidData",
         ),
-        (|at| fs::write(at.journal(), [b'a'; 760]), "Journal"),
+        (|at| fs::write(at.journal(), [b'a'; 513]), "Journal"),
         // Then the file has two names.
         (|at| fs::hard_link(at.file(), at.journal()), "Moved"),
     ];
@@ -172,6 +172,7 @@ fn what_is_no_journal() {
             let is_name = error == "Moved" && refused == "InvalidData";
             assert!(refused == error || is_name, "{number} {refused}");
         }
+        assert_eq!(fs::read(folder.file()).unwrap(), bytes, "{number}");
         // It is put there once more while the file is open.
         let (journal, aside) = (folder.journal(), folder.path("aside"));
         fs::rename(&journal, &aside).unwrap();
@@ -182,8 +183,12 @@ fn what_is_no_journal() {
             file.write(b"after!", 0).unwrap();
             assert_eq!(outcome(file.commit()), error, "{number}");
             assert_eq!(folder.names(), names, "{number}");
+            assert_eq!(fs::read(folder.file()).unwrap(), bytes, "{number}");
+            // The changes are still in memory.
+            fs::rename(&journal, &aside).unwrap();
+            file.commit().unwrap();
+            assert_eq!(text_of(&mut file), b"after!");
         }
-        assert_eq!(fs::read(folder.file()).unwrap(), bytes, "{number}");
     }
 }
 

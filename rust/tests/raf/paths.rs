@@ -224,23 +224,6 @@ fn refused_after_a_file_was_made() {
     assert_eq!(folder.names(), ["file", "new", "other"]);
 }
 
-/// While another file has the name of the journal no commit is made, and the changes stay in memory.
-#[test]
-fn another_file_in_place_of_a_journal() {
-    let folder = Folder::new();
-    let mut file = folder.create().unwrap();
-    file.write(b"changed", 0).unwrap();
-    for len in [1, 512, 600] {
-        fs::write(folder.journal(), vec![7; len]).unwrap();
-        assert_eq!(outcome(file.commit()), "Journal");
-        assert_eq!(fs::read(folder.journal()).unwrap(), vec![7; len]);
-    }
-    fs::remove_file(folder.journal()).unwrap();
-    file.commit().unwrap();
-    drop(file);
-    assert_eq!(folder.text(), b"changed");
-}
-
 /// Opening empties no journal that it has not read.
 #[test]
 fn a_file_that_appears_in_place_of_a_journal() {
