@@ -77,7 +77,7 @@ use changes::{Changes, SealedChanges, copy_of};
 use core::fmt;
 use core::iter::once;
 use core::ops::Range;
-use journal::{Buffer, PendingWrite};
+use journal::PendingWrite;
 use layout::{HEADER_BLOCK_BYTES, Layout};
 use std::io::ErrorKind;
 #[cfg(feature = "raf")]
@@ -207,7 +207,9 @@ impl<A: Algorithm, I: RafIo, R: RafRng, J: RafIo> Raf<A, I, R, J> {
     fn read_each(&mut self, buf: &mut [u8], offset: u64) -> Result<usize> {
         self.check_is_usable()?;
         let count = self.size.saturating_sub(offset).min(buf.len() as u64) as usize;
-        let (mut number, mut at) = self.place(offset);
+        // The page that has the next byte, and the byte's place in it.
+        let chunk_size = u64::from(self.layout.chunk_size);
+        let (mut number, mut at) = (offset / chunk_size, (offset % chunk_size) as usize);
         let mut rest = &mut buf[..count];
         while !rest.is_empty() {
             let most = self.layout.page_count((at + rest.len()) as u64);
@@ -242,7 +244,7 @@ impl<A: Algorithm, I: RafIo, R: RafRng, J: RafIo> Raf<A, I, R, J> {
         self.change(data, offset)?;
         self.is_cut_short = was_cut_short;
         let chunk_size = self.layout.chunk_size as usize;
-        let changed = self.changes.len().saturating_mul(chunk_size);
+        let changed = self.changes.0.len().saturating_mul(chunk_size);
         if changed > self.buffer_limit && !self.is_in_batch() {
             self.commit()?;
         }
@@ -296,7 +298,8 @@ impl<A: Algorithm, I: RafIo, R: RafRng, J: RafIo> Raf<A, I, R, J> {
             return Ok(());
         }
         self.check_is_usable()?;
-        self.changes.cut(self.layout.page_count(size));
+        let count = self.layout.page_count(size);
+        self.changes.0.retain(|number, _| *number < count);
         self.size = size;
         Ok(())
     }
@@ -328,7 +331,7 @@ impl<A: Algorithm, I: RafIo, R: RafRng, J: RafIo> Raf<A, I, R, J> {
         if !self.owner.is_this() {
             return Err(Error::Locked);
         }
-        if self.changes.is_empty() && self.size == self.stored {
+        if self.changes.0.is_empty() && self.size == self.stored {
             return Ok(());
         }
         let counter = self.counter.checked_add(1).ok_or(Error::TooLong)?;
@@ -355,7 +358,7 @@ impl<A: Algorithm, I: RafIo, R: RafRng, J: RafIo> Raf<A, I, R, J> {
         let mut nonce = [0; journal::NONCE_BYTES];
         self.rng.fill(&mut nonce)?;
         let seal = self.layout.journal(&nonce);
-        let mut buffer = Buffer::new()?;
+        let mut buffer = journal::buffer()?;
         let mut writes = with_room(numbers.len() + headers.len())?;
         let sealed = SealedChanges::new(&self.layout, &mut self.changes, numbers, nonces);
         let [first, last] = headers.map(|bytes| PendingWrite { place: 0, bytes });
@@ -406,7 +409,7 @@ impl<A: Algorithm, I: RafIo, R: RafRng, J: RafIo> Raf<A, I, R, J> {
     /// Discards all changes since the last commit.
     pub fn discard(&mut self) {
         self.shown = 0..0;
-        self.changes.clear();
+        self.changes.0.clear();
         self.size = self.stored;
         self.is_cut_short = self.is_in_batch();
     }
@@ -427,12 +430,6 @@ impl<A: Algorithm, I: RafIo, R: RafRng, J: RafIo> Raf<A, I, R, J> {
         }
     }
 
-    /// The page that has a byte of the contents, and the byte's place in it.
-    fn place(&self, offset: u64) -> (u64, usize) {
-        let chunk_size = u64::from(self.layout.chunk_size);
-        (offset / chunk_size, (offset % chunk_size) as usize)
-    }
-
     /// Shows pages from this one on: those that are shown already, or others. Returns which of `pages` they are, 1 to `most`.
     fn show_pages(&mut self, number: u64, most: u64) -> Result<Range<usize>> {
         if self.shown.contains(&number) {
@@ -450,8 +447,8 @@ impl<A: Algorithm, I: RafIo, R: RafRng, J: RafIo> Raf<A, I, R, J> {
     /// page comes alone. Others are read in one call, up to the next changed one.
     fn read_pages(&mut self, number: u64, most: u64) -> Result<usize> {
         let page_bytes = self.layout.page_bytes();
-        if let Some(page) = self.changes.get(number) {
-            self.pages[..page_bytes].copy_from_slice(page);
+        if let Some(page) = self.changes.0.get(&number) {
+            self.pages[..page_bytes].copy_from_slice(&page.0);
             return Ok(1);
         }
         let most = most.min((self.pages.len() / page_bytes) as u64);

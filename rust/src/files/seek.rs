@@ -84,7 +84,11 @@ impl<R: Read + Seek> SealedReader<R> {
     /// in whole pieces.
     fn open_record_of(&mut self, place: Option<u64>) -> io::Result<()> {
         self.begin()?;
-        self.find_base()?;
+        // Where the file begins in the inner reader, which is moved next.
+        if self.base.is_none() {
+            let base = self.inner.stream_position()?.checked_sub(self.taken);
+            self.base = Some(base.ok_or(ErrorKind::InvalidInput)?);
+        }
         self.is_lost = true;
         let file_bytes = self.inner.seek(SeekFrom::End(0))?;
         let file_bytes = file_bytes.saturating_sub(self.base.unwrap_or(0));
@@ -110,15 +114,6 @@ impl<R: Read + Seek> SealedReader<R> {
         let end = self.start + self.length as u64;
         self.opener.as_ref().is_some_and(Opener::has_ended)
             || place.is_some_and(|place| place < end)
-    }
-
-    /// Finds out where the file begins in the inner reader, before that is moved.
-    fn find_base(&mut self) -> io::Result<()> {
-        if self.base.is_none() {
-            let base = self.inner.stream_position()?.checked_sub(self.taken);
-            self.base = Some(base.ok_or(ErrorKind::InvalidInput)?);
-        }
-        Ok(())
     }
 
     /// Returns the position of the record that has a place, or of the last one, by the lengths of those before it. Only lengths

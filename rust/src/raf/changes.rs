@@ -27,27 +27,12 @@ pub fn copy_of(page: &[u8]) -> io::Result<Page> {
 /// Changed pages by their numbers, each with room for its nonce and its tag. A tree would be sorted, but takes its memory
 /// without a way to fail.
 #[derive(Default)]
-pub struct Changes(HashMap<u64, Page>);
+pub struct Changes(pub HashMap<u64, Page>);
 
 impl Changes {
-    /// Returns whether no page was changed.
-    pub fn is_empty(&self) -> bool {
-        self.0.is_empty()
-    }
-
-    /// Returns how many pages were changed.
-    pub fn len(&self) -> usize {
-        self.0.len()
-    }
-
-    /// Returns a page that was changed.
-    pub fn get(&self, number: u64) -> Option<&[u8]> {
-        self.0.get(&number).map(|page| &*page.0)
-    }
-
     /// Returns how many pages from this number on are unchanged, at most this many.
     pub fn unchanged_from(&self, number: u64, most: u64) -> u64 {
-        if self.is_empty() {
+        if self.0.is_empty() {
             return most;
         }
         let is_changed = |count: &u64| self.0.contains_key(&(number + count));
@@ -56,7 +41,7 @@ impl Changes {
 
     /// Returns the numbers of the pages, the lowest first.
     pub fn numbers(&self) -> io::Result<Vec<u64>> {
-        let mut numbers = with_room(self.len())?;
+        let mut numbers = with_room(self.0.len())?;
         numbers.extend(self.0.keys());
         numbers.sort_unstable();
         Ok(numbers)
@@ -86,23 +71,13 @@ impl Changes {
 
     /// Returns a copy of all pages.
     pub fn try_clone(&self) -> io::Result<Self> {
-        let mut pages = with_room(self.len())?;
+        let mut pages = with_room(self.0.len())?;
         for (number, page) in &self.0 {
             pages.push((*number, copy_of(&page.0)?));
         }
         let mut copy = Changes::default();
         copy.append(pages)?;
         Ok(copy)
-    }
-
-    /// Forgets the pages from this number on.
-    pub fn cut(&mut self, number: u64) {
-        self.0.retain(|own, _| *own < number);
-    }
-
-    /// Forgets all pages.
-    pub fn clear(&mut self) {
-        self.0.clear();
     }
 }
 
@@ -141,7 +116,7 @@ impl<'c, A: Algorithm> SealedChanges<'c, A> {
         self.numbers.iter().filter_map(|number| {
             Some(PendingWrite {
                 place: self.layout.page_place(*number),
-                bytes: self.changes.get(*number)?,
+                bytes: &self.changes.0.get(number)?.0,
             })
         })
     }
@@ -149,11 +124,11 @@ impl<'c, A: Algorithm> SealedChanges<'c, A> {
     /// Forgets the pages, which were written. They are not overwritten, since they are encrypted.
     pub fn forget(mut self) {
         self.numbers = &[];
-        let bytes = self.changes.len() * self.layout.page_bytes();
+        let bytes = self.changes.0.len() * self.layout.page_bytes();
         for page in self.changes.0.values_mut() {
             drop(mem::take(&mut page.0));
         }
-        self.changes.clear();
+        self.changes.0.clear();
         // glibc gives freed memory back to the system, which clears it for the next changes. But it keeps as much as was once
         // freed in one piece.
         let _ = black_box(with_room::<u8>(bytes));

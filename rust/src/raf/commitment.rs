@@ -1,6 +1,6 @@
 //! One MAC over the tags of all pages.
 
-use super::layout::{TAG_BYTES, commitment_nonce};
+use super::layout::TAG_BYTES;
 use super::{Algorithm, Error, Raf, RafIo, RafRng, Result};
 use crate::Mac;
 
@@ -30,7 +30,9 @@ impl<A: Algorithm, I: RafIo, R: RafRng, J: RafIo> Raf<A, I, R, J> {
 
     fn commitment_mac(&mut self) -> Result<Mac<A, 32>> {
         self.check_is_usable()?;
-        let nonce = commitment_nonce::<A>();
+        // No page and no header has this nonce.
+        let mut nonce = A::Nonce::default();
+        nonce.as_mut().fill(255);
         let mut mac = Mac::<A, 32>::new_with_nonce(&self.layout.key.0, &nonce);
         mac.update(&self.layout.plaintext_header());
         mac.update(&self.counter.to_le_bytes());

@@ -16,7 +16,7 @@ pub const NONCE_BYTES: usize = 16;
 /// The length of the beginning of a journal, which names its file, and fills a sector.
 pub const BEGINNING_BYTES: usize = 512;
 /// How many bytes a journal has in front of its writes: the beginning and the nonce.
-const START_BYTES: usize = BEGINNING_BYTES + NONCE_BYTES;
+pub const START_BYTES: usize = BEGINNING_BYTES + NONCE_BYTES;
 /// How many bytes a write in a journal has in front of its own, and a journal after its writes.
 const HEAD_BYTES: usize = 16;
 const MAC_BYTES: usize = 32;
@@ -34,22 +34,13 @@ pub struct JournalSeal {
     pub start: [u8; START_BYTES],
 }
 
-impl Default for JournalSeal {
-    fn default() -> Self {
-        JournalSeal {
-            state: State::ENDED,
-            start: [0; START_BYTES],
-        }
-    }
-}
-
 /// Makes the writes, the first of them first, so that after a crash all of them are made or none. The journal must be empty.
 pub fn commit(
     io: &mut impl RafIo,
     journal: &mut impl RafIo,
     seal: JournalSeal,
     writes: &[PendingWrite<'_>],
-    buffer: &mut Buffer,
+    buffer: &mut Vec<u8>,
 ) -> io::Result<()> {
     if !journal.keeps_bytes() {
         return write_and_sync(io, writes.iter().copied(), buffer);
@@ -65,7 +56,7 @@ fn write_journal(
     journal: &mut impl RafIo,
     seal: JournalSeal,
     writes: &[PendingWrite<'_>],
-    buffer: &mut Buffer,
+    buffer: &mut Vec<u8>,
 ) -> io::Result<()> {
     journal.write_at(&seal.start[..BEGINNING_BYTES], 0)?;
     journal.sync()?;
@@ -107,7 +98,7 @@ fn too_long(_refusal: Refusal) -> io::Error {
 pub fn write_and_sync<'b>(
     io: &mut impl RafIo,
     writes: impl IntoIterator<Item = PendingWrite<'b>>,
-    buffer: &mut Buffer,
+    buffer: &mut Vec<u8>,
 ) -> io::Result<()> {
     let mut neighbours = Neighbours::new(io, buffer);
     for write in writes {
@@ -119,14 +110,9 @@ pub fn write_and_sync<'b>(
 /// The most bytes that are written in one call. A longer write is a call of its own.
 const MOST_BYTES: usize = 256 * 1024;
 
-/// Memory in which neighbours are gathered. It is taken before anything is written.
-pub struct Buffer(Vec<u8>);
-
-impl Buffer {
-    /// Takes the memory, or returns an error if there is none.
-    pub fn new() -> io::Result<Self> {
-        Ok(Buffer(with_room(MOST_BYTES)?))
-    }
+/// Takes the memory in which neighbours are gathered, before anything is written.
+pub fn buffer() -> io::Result<Vec<u8>> {
+    with_room(MOST_BYTES)
 }
 
 /// Writes in their order, neighbours in one call.
@@ -137,12 +123,12 @@ struct Neighbours<'i, I> {
 }
 
 impl<'i, I: RafIo> Neighbours<'i, I> {
-    fn new(io: &'i mut I, buffer: &'i mut Buffer) -> Self {
-        buffer.0.clear();
+    fn new(io: &'i mut I, buffer: &'i mut Vec<u8>) -> Self {
+        buffer.clear();
         Neighbours {
             io,
             place: 0,
-            bytes: &mut buffer.0,
+            bytes: buffer,
         }
     }
 

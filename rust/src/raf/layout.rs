@@ -1,8 +1,8 @@
 //! How a file is laid out: its header and its pages, which the library seals and opens.
 
 use super::Algorithm;
-use super::journal::{JournalSeal, NONCE_BYTES};
-use crate::exports;
+use super::journal::{JournalSeal, NONCE_BYTES, START_BYTES};
+use crate::exports::{self, State};
 use crate::wipe::Wiped;
 
 /// How many bytes are read in one call, at most, unless a page has more.
@@ -12,7 +12,7 @@ pub const TAG_BYTES: usize = 32;
 /// The length of the header block.
 pub const HEADER_BLOCK_BYTES: usize = 512;
 /// Where the first page is.
-pub const FIRST_PAGE: u64 = 4096;
+const FIRST_PAGE: u64 = 4096;
 /// The length of a file's id.
 pub const ID_BYTES: usize = 24;
 /// The length of the plaintext part of a header: the magic number, the algorithm, the chunk size and the id.
@@ -114,7 +114,10 @@ impl<A: Algorithm> Layout<A> {
 
     /// Begins the journal of a commit. A nonce is for one journal only.
     pub fn journal(&self, nonce: &[u8; NONCE_BYTES]) -> JournalSeal {
-        let mut seal = JournalSeal::default();
+        let mut seal = JournalSeal {
+            state: State::ENDED,
+            start: [0; START_BYTES],
+        };
         let (st, start) = (&mut seal.state, &mut seal.start);
         let (size, id, key) = (self.chunk_size, &self.id, self.key.0.as_ref());
         let answer = exports::journal_init(A::NUMBER, st, size, id, nonce, key, start);
@@ -126,28 +129,16 @@ impl<A: Algorithm> Layout<A> {
     pub fn plaintext_header(&self) -> [u8; PLAINTEXT_HEADER_BYTES] {
         let mut plaintext = [0; PLAINTEXT_HEADER_BYTES];
         plaintext[..4].copy_from_slice(&MAGIC);
-        plaintext[4] = algorithm_byte::<A>();
+        plaintext[4] = A::KEY_BYTES as u8 + A::LANES;
         plaintext[5..9].copy_from_slice(&self.chunk_size.to_le_bytes());
         plaintext[9..].copy_from_slice(&self.id);
         plaintext
     }
 }
 
-/// The byte that names an algorithm in a header: the length of its keys, and its number of lanes.
-pub fn algorithm_byte<A: Algorithm>() -> u8 {
-    A::KEY_BYTES as u8 + A::LANES
-}
-
 /// Returns whether a page may have this number of bytes of contents.
 pub fn is_chunk_size(bytes: u32) -> bool {
     (256..=65_536).contains(&bytes)
-}
-
-/// Returns the byte of the algorithm and the chunk size that the plaintext part of a header names, if it is one of this format.
-pub fn named_by(plaintext: &[u8; PLAINTEXT_HEADER_BYTES]) -> Option<(u8, u32)> {
-    let chunk_size = u32::from_le_bytes(plaintext[5..9].try_into().ok()?);
-    let is_known = plaintext[..4] == MAGIC && is_chunk_size(chunk_size);
-    is_known.then_some((plaintext[4], chunk_size))
 }
 
 /// Returns the header in a sector, if it is one of this algorithm and the key.
@@ -166,13 +157,6 @@ pub fn open_header<A: Algorithm>(
         &mut header.contents_len,
     );
     opened.ok().map(|()| header)
-}
-
-/// Returns the nonce that no page and no header has.
-pub fn commitment_nonce<A: Algorithm>() -> A::Nonce {
-    let mut nonce = A::Nonce::default();
-    nonce.as_mut().fill(255);
-    nonce
 }
 
 #[cfg(test)]

@@ -1,6 +1,6 @@
 //! What a file shows without its key.
 
-use super::layout::{HEADER_BLOCK_BYTES, PLAINTEXT_HEADER_BYTES, named_by};
+use super::layout::{HEADER_BLOCK_BYTES, MAGIC, PLAINTEXT_HEADER_BYTES, is_chunk_size};
 use super::{AlgorithmId, Error, RafIo, Result};
 
 /// The plaintext part of a header. It is not verified.
@@ -27,10 +27,14 @@ pub fn probe(io: &mut impl RafIo) -> Result<RafInfo> {
     }
     let mut plaintext = [0; PLAINTEXT_HEADER_BYTES];
     io.read_at(&mut plaintext, 0)?;
-    let (byte, chunk_size) = named_by(&plaintext).ok_or(Error::Header)?;
-    Ok(RafInfo {
-        algorithm: AlgorithmId::of_byte(byte).ok_or(Error::Header)?,
-        chunk_size,
-        file_size,
-    })
+    let [_, _, _, _, byte, size @ ..] = plaintext;
+    let chunk_size = u32::from_le_bytes([size[0], size[1], size[2], size[3]]);
+    match AlgorithmId::of_byte(byte) {
+        Some(algorithm) if plaintext[..4] == MAGIC && is_chunk_size(chunk_size) => Ok(RafInfo {
+            algorithm,
+            chunk_size,
+            file_size,
+        }),
+        _ => Err(Error::Header),
+    }
 }

@@ -1,7 +1,7 @@
 //! Opening a file and its journal: completing a commit that was interrupted.
 
 use super::io::{RafIo, read_all};
-use super::journal::{BEGINNING_BYTES, Buffer, NONCE_BYTES};
+use super::journal::{BEGINNING_BYTES, NONCE_BYTES, buffer};
 use super::journal::{checked_writes, empty, journaled_writes, write_and_sync};
 use super::layout::{HEADER_BLOCK_BYTES, Layout, PageHeader, open_header};
 use super::{Algorithm, Error, Result, default_chunk_size};
@@ -26,18 +26,8 @@ struct FileStart {
 impl FileStart {
     fn read<A: Algorithm>(io: &mut impl RafIo, key: &A::Key) -> Result<Self> {
         let block = read_header_block(io)?;
-        let header = block
-            .as_ref()
-            .and_then(|block| open_header::<A>(key, block));
+        let header = block.and_then(|block| open_header::<A>(key, &block));
         Ok(FileStart { block, header })
-    }
-
-    /// The error for a journal that is not accepted.
-    fn refusal(&self) -> Error {
-        match self.header {
-            Some(_) => Error::Journal,
-            None => Error::Header,
-        }
     }
 
     /// Returns whether a journal begins as those of this file do. If the file has no header, those of any file will do.
@@ -65,7 +55,10 @@ impl FileStart {
             let mut first = [0; BEGINNING_BYTES];
             journal.read_at(&mut first, 0)?;
             if !self.is_of::<A>(key, &first) {
-                return Err(self.refusal());
+                return Err(self
+                    .header
+                    .as_ref()
+                    .map_or(Error::Header, |_| Error::Journal));
             }
         }
         let content = read_all(journal)?;
@@ -138,9 +131,12 @@ pub fn recover<A: Algorithm>(
     // If no power was lost, what can be read may not be synced yet.
     io.sync()?;
     if !writes.is_empty() {
-        let mut buffer = Buffer::new()?;
+        let mut buffer = buffer()?;
         if start.is_before::<A>(io, key, writes)? {
-            write_again(journal, &content)?;
+            // After a sync that failed, Linux returns the bytes of the journal, will not write them to the disk, and reports no
+            // error to the next sync. The beginning was synced before the rest was written. If a write of the commit was begun,
+            // so was all of the journal. Then it must not be written: a crash might tear it.
+            journal.write_at(&content[BEGINNING_BYTES..], BEGINNING_BYTES as u64)?;
         }
         journal.sync()?;
         write_and_sync(io, journaled_writes(writes), &mut buffer)?;
@@ -153,16 +149,6 @@ pub fn recover<A: Algorithm>(
     }
     let header = FileStart::read::<A>(io, key)?.header;
     header.ok_or(Error::Io(io::ErrorKind::InvalidData.into()))
-}
-
-/// Writes a whole journal in its place again. After a sync that failed, Linux returns the bytes of that journal, will not write
-/// them to the disk, and reports no error to the next sync.
-///
-/// The beginning was synced before the rest was written. If a write of the commit was begun, so was all of the journal. Then it
-/// must not be written: a crash might tear it.
-fn write_again(journal: &mut impl RafIo, content: &[u8]) -> io::Result<()> {
-    let (_, rest) = content.split_at(BEGINNING_BYTES);
-    journal.write_at(rest, BEGINNING_BYTES as u64)
 }
 
 /// Reads the header block, or returns `None` if there are fewer bytes.
