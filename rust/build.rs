@@ -37,17 +37,11 @@ fn main() {
     println!("cargo::rustc-link-lib=static=hunkravy");
 }
 
-/// The targets that there is a library for.
-const TARGETS: [&str; 4] = [
-    "x86_64-unknown-linux-gnu",
-    "x86_64-unknown-linux-musl",
-    "aarch64-unknown-linux-gnu",
-    "aarch64-unknown-linux-musl",
-];
-
 /// Returns an error if there is no library for a target.
 pub fn check_target(target: &str) -> Result<(), String> {
-    if TARGETS.contains(&target) {
+    let (processor, system) = target.split_once('-').unwrap_or((target, ""));
+    let is_linux = ["unknown-linux-gnu", "unknown-linux-musl"].contains(&system);
+    if is_linux && PROCESSORS.iter().any(|known| known.0 == processor) {
         return Ok(());
     }
     Err(format!(

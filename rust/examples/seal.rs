@@ -20,22 +20,6 @@ fn open(
     Aegis256::new(key, nonce).decrypt_in_place(ciphertext, tag, header)
 }
 
-/// A published vector of AEGIS-256: sixteen zero bytes with no associated data.
-fn check_vector() -> Result<(), Error> {
-    let (mut key, mut nonce, mut buffer) = ([0; 32], [0; 32], [0; 16]);
-    key[..2].copy_from_slice(&[0x10, 0x01]);
-    nonce[..3].copy_from_slice(&[0x10, 0x00, 0x02]);
-    let tag = seal(&key, &nonce, &[], &mut buffer);
-    assert_eq!(
-        u128::from_be_bytes(buffer),
-        0x754fc3d8c973246dcc6d741412a4b236
-    );
-    assert_eq!(tag[..4], [0x11, 0x81, 0xa1, 0xd1]);
-    open(&key, &nonce, &[], &mut buffer, &tag)?;
-    assert_eq!(buffer, [0; 16]);
-    Ok(())
-}
-
 /// A message that is sealed and opened in chunks of other lengths.
 fn check_chunks(key: &Key, nonce: &Nonce) -> Result<(), Error> {
     let cipher = Aegis256::<16>::new(key, nonce);
@@ -69,7 +53,6 @@ fn check_mac(key: &Key) -> Result<(), Error> {
 }
 
 fn main() -> Result<(), Error> {
-    check_vector()?;
     check_chunks(&[7; 32], &[2; 32])?;
     check_mac(&[8; 32])?;
 

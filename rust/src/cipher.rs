@@ -68,14 +68,6 @@ impl<V: Variant, const TAG_BYTES: usize> Cipher<V, TAG_BYTES> {
     }
 
     /// Encrypts the message at `mc` in place. Returns its tag, which authenticates the associated data `ad` too.
-    ///
-    /// ```
-    /// use hunkravy::aegis128x4::Aegis128X4;
-    ///
-    /// let mut buffer = *b"a message";
-    /// let tag = Aegis128X4::<16>::new(&[1; 16], &[2; 16]).encrypt_in_place(&mut buffer, b"header");
-    /// assert_ne!(&buffer, b"a message");
-    /// ```
     #[track_caller]
     #[must_use = "the message cannot be decrypted without its tag"]
     pub fn encrypt_in_place(self, mc: &mut [u8], ad: &[u8]) -> Tag<TAG_BYTES> {
@@ -181,16 +173,6 @@ impl<V: Variant, const TAG_BYTES: usize> Cipher<V, TAG_BYTES> {
     }
 
     /// Xors the bytes at `mc` with the keystream from its beginning. Calling it twice restores them.
-    ///
-    /// ```
-    /// use hunkravy::aegis128l::Aegis128L;
-    ///
-    /// let (key, nonce) = ([1; 16], [2; 16]);
-    /// let mut buffer = *b"a message";
-    /// Aegis128L::<16>::new(&key, &nonce).stream_xor_in_place(&mut buffer);
-    /// Aegis128L::<16>::new(&key, &nonce).stream_xor_in_place(&mut buffer);
-    /// assert_eq!(&buffer, b"a message");
-    /// ```
     pub fn stream_xor_in_place(self, mc: &mut [u8]) {
         let (nonce, key) = (self.nonce.as_ref(), self.key.as_ref());
         done(exports::stream_xor_in_place(V::NUMBER, mc, nonce, key));

@@ -47,14 +47,6 @@ impl<V: Variant, const TAG_BYTES: usize> Encryptor<V, TAG_BYTES> {
     ///
     /// If the lengths differ, or the message is then longer than [`MAX_AEAD_BYTES`](crate::MAX_AEAD_BYTES). Nothing has
     /// changed then.
-    ///
-    /// ```
-    /// use hunkravy::aegis256::Aegis256;
-    ///
-    /// let mut encryptor = Aegis256::<32>::new(&[1; 32], &[2; 32]).encryptor(b"header");
-    /// let mut ciphertext = [0; 5];
-    /// encryptor.update(b"AEGIS", &mut ciphertext);
-    /// ```
     #[track_caller]
     pub fn update(&mut self, plaintext: &[u8], ciphertext: &mut [u8]) {
         assert_eq!(
@@ -81,14 +73,6 @@ impl<V: Variant, const TAG_BYTES: usize> Encryptor<V, TAG_BYTES> {
     }
 
     /// Returns how many more bytes the message may have.
-    ///
-    /// ```
-    /// use hunkravy::{MAX_AEAD_BYTES, aegis128x2::Aegis128X2};
-    ///
-    /// let mut encryptor = Aegis128X2::<16>::new(&[1; 16], &[2; 16]).encryptor(b"");
-    /// encryptor.update_in_place(&mut [0; 100]);
-    /// assert_eq!(encryptor.remaining(), MAX_AEAD_BYTES - 100);
-    /// ```
     #[must_use]
     pub fn remaining(&self) -> u64 {
         MAX_AEAD_BYTES - self.state.message_bytes

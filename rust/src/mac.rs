@@ -75,14 +75,6 @@ impl<V: Variant, const TAG_BYTES: usize> Mac<V, TAG_BYTES> {
     }
 
     /// Returns how many more bytes the input may have.
-    ///
-    /// ```
-    /// use hunkravy::{MAX_AEAD_BYTES, aegis128x4::Aegis128X4Mac};
-    ///
-    /// let mut mac = Aegis128X4Mac::<16>::new(&[1; 16]);
-    /// mac.update(&[0; 100]);
-    /// assert_eq!(mac.remaining(), MAX_AEAD_BYTES - 100);
-    /// ```
     #[must_use]
     pub fn remaining(&self) -> u64 {
         MAX_AEAD_BYTES - self.state.message_bytes

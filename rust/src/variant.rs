@@ -115,49 +115,13 @@ macro_rules! variants {
             #[doc = concat!($standard, " under a key and a nonce. [`Cipher`](crate::Cipher) has its functions.")]
             pub type $cipher<const TAG_BYTES: usize> = crate::Cipher<crate::variants::$cipher, TAG_BYTES>;
 
-            #[doc = concat!("Encrypts a message of ", $standard, " in chunks.")]
-            ///
-            /// ```
-            #[doc = concat!("use hunkravy::", stringify!($module), "::{", stringify!($cipher), ", Encryptor};")]
-            ///
-            #[doc = concat!("let cipher = ", stringify!($cipher), "::new(&[1; ", $bytes, "], &[2; ", $bytes, "]);")]
-            /// let mut encryptor: Encryptor<32> = cipher.encryptor(b"header");
-            /// let mut chunk = *b"a chunk";
-            /// encryptor.update_in_place(&mut chunk);
-            /// let tag = encryptor.finalize();
-            /// ```
+            #[doc = concat!("Encrypts a message of ", $standard, " in chunks. [`Encryptor`](crate::Encryptor) has its functions.")]
             pub type Encryptor<const TAG_BYTES: usize> = crate::Encryptor<crate::variants::$cipher, TAG_BYTES>;
 
-            #[doc = concat!("Decrypts a message of ", $standard, " in chunks.")]
-            ///
-            /// ```
-            #[doc = concat!("use hunkravy::", stringify!($module), "::{", stringify!($cipher), ", Decryptor, Error};")]
-            ///
-            #[doc = concat!("let cipher = ", stringify!($cipher), "::new(&[1; ", $bytes, "], &[2; ", $bytes, "]);")]
-            /// let mut ciphertext = *b"a chunk";
-            /// let mut encryptor = cipher.encryptor(b"header");
-            /// encryptor.update_in_place(&mut ciphertext);
-            /// let tag = encryptor.finalize();
-            ///
-            /// let mut buffer = [0; 7];
-            /// let mut decryptor: Decryptor<'_, 16> = cipher.decryptor(b"header", &mut buffer);
-            /// decryptor.update(&ciphertext)?;
-            /// assert_eq!(decryptor.finalize(&tag)?, b"a chunk");
-            /// # Ok::<(), Error>(())
-            /// ```
+            #[doc = concat!("Decrypts a message of ", $standard, " in chunks. [`Decryptor`](crate::Decryptor) has its functions.")]
             pub type Decryptor<'a, const TAG_BYTES: usize> = crate::Decryptor<'a, crate::variants::$cipher, TAG_BYTES>;
 
             #[doc = concat!("The MAC of ", $standard, ". [`Mac`](crate::Mac) has its functions.")]
-            ///
-            /// ```
-            #[doc = concat!("use hunkravy::", stringify!($module), "::{", stringify!($mac), ", Error};")]
-            ///
-            #[doc = concat!("let mut mac = ", stringify!($mac), "::<16>::new(&[1; ", $bytes, "]);")]
-            /// mac.update(b"the input");
-            /// let again = mac.clone();
-            /// again.verify(&mac.finalize())?;
-            /// # Ok::<(), Error>(())
-            /// ```
             pub type $mac<const TAG_BYTES: usize> = crate::Mac<crate::variants::$cipher, TAG_BYTES>;
         }
         )*

@@ -425,11 +425,9 @@ fn journal_at(path: &Path) -> io::Result<Option<Metadata>> {
 /// is an error, because its owner could write it. The file of the journal must be locked.
 fn left_at(path: &Path, create: bool) -> io::Result<Option<Metadata>> {
     if found_at(path)?.is_some_and(|found| is_empty(&found)) {
-        let removed = fs::remove_file(path);
-        return if create {
-            removed.map(|()| None)
-        } else {
-            Ok(None)
+        return match fs::remove_file(path) {
+            Err(error) if create => Err(error),
+            _ => Ok(None),
         };
     }
     journal_at(path)

@@ -2,7 +2,6 @@
 
 use crate::support::*;
 use hunkravy::records::*;
-use std::fs;
 
 const PREFIX: Prefix = [2; 24];
 
@@ -16,29 +15,6 @@ fn opener(header: &[u8]) -> Opener<'static> {
 
 fn opener_at(number: u64, before: u64) -> Result<Opener<'static>, Error> {
     Opener::begin_at(&key(), &PREFIX, CONTEXT, Position { number, before })
-}
-
-/// A record with a message in its place.
-fn record(message: &[u8]) -> Vec<u8> {
-    [&[0xee; RECORD_HEAD_BYTES][..], message, &[0xdd; 32]].concat()
-}
-
-/// Messages that are sealed in place have the stored bytes too.
-#[test]
-fn sealed_in_place() {
-    let file = fs::read(data("records.sealed")).unwrap();
-    let (prefix, stream) = file.split_first_chunk().unwrap();
-    let mut sealer = Sealer::new(&key(), prefix, CONTEXT).unwrap();
-    let mut sealed = sealer.header().to_vec();
-    for (number, message) in MESSAGES.iter().enumerate() {
-        let mut record = record(message);
-        match number {
-            4 => sealer.seal_last_in_place(&mut record).unwrap(),
-            _ => sealer.seal_next_in_place(&mut record).unwrap(),
-        }
-        sealed.extend(record);
-    }
-    assert_eq!(sealed, stream);
 }
 
 /// Each record opens at its position alone, and all that follow it.
