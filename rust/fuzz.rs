@@ -37,9 +37,8 @@ fn changed(original: &[u8], input: &[u8]) -> Vec<u8> {
             0 => bytes.truncate(place),
             1 => bytes.insert(place, byte),
             2 if length < 1 << 20 => bytes.extend_from_within(place..),
-            _ => bytes
+            _ => bytes[place..]
                 .iter_mut()
-                .skip(place)
                 .take(1)
                 .for_each(|old| *old = byte),
         }
@@ -84,10 +83,8 @@ impl Memory {
 impl RafIo for Memory {
     fn read_at(&mut self, buf: &mut [u8], offset: u64) -> Result<()> {
         let (bytes, _) = &*self.0.borrow();
-        let found = bytes
-            .get(offset as usize..)
-            .and_then(|rest| rest.get(..buf.len()));
-        buf.copy_from_slice(found.ok_or(ErrorKind::UnexpectedEof)?);
+        let rest = bytes.get(offset as usize..).unwrap_or(&[]);
+        buf.copy_from_slice(rest.get(..buf.len()).ok_or(ErrorKind::UnexpectedEof)?);
         Ok(())
     }
 
@@ -121,10 +118,8 @@ const NEW: &[u8] = &[b'n'; 700];
 /// The bytes of a file before its second commit, and those of the journal of that commit.
 static FILE: LazyLock<(Vec<u8>, Vec<u8>)> = LazyLock::new(|| {
     let (file, journal) = (Memory::default(), Memory::default());
-    let builder = RafBuilder::<Aegis256>::new()
-        .chunk_size(256)
-        .journal(journal.clone());
-    let mut raf = builder.create(file.clone(), &KEY).unwrap();
+    let builder = RafBuilder::<Aegis256>::new().journal(journal.clone());
+    let mut raf = builder.chunk_size(256).create(file.clone(), &KEY).unwrap();
     raf.write(OLD, 0).unwrap();
     raf.commit().unwrap();
     let before = file.0.borrow().0.clone();
@@ -145,12 +140,11 @@ fn random_access_file(of_file: &[u8], of_journal: &[u8]) {
     let new = [&OLD[..100], NEW, &OLD[800..]].concat();
     assert!(raf.size() == OLD.len() as u64);
     let mut page = [0; 90];
-    let pages: Vec<u64> = (0..10)
-        .filter(|page_number| read(&mut raf, &mut page, *page_number * 90))
-        .collect();
+    let pages = (0..10).filter(|number| read(&mut raf, &mut page, number * 90));
+    let count = pages.count();
     let _ = raf.commitment();
     let mut found = vec![0; OLD.len()];
-    if pages.len() == 10 && raf.read(&mut found, 0).is_ok() {
+    if count == 10 && raf.read(&mut found, 0).is_ok() {
         assert!(found == OLD || found == new);
     }
 }
@@ -173,10 +167,8 @@ fn key_file(input: &[u8]) {
     std::fs::write(&path, &bytes).unwrap();
     let key = read_key(&path);
     std::fs::remove_file(&path).unwrap();
-    let digits = bytes
-        .iter()
-        .take_while(|byte| byte.is_ascii_hexdigit())
-        .count();
+    let is_digit = |byte: &&u8| byte.is_ascii_hexdigit();
+    let digits = bytes.iter().take_while(is_digit).count();
     assert!(key.is_err() || digits == 64 && bytes.len() <= 66);
     assert!(key.is_ok() || bytes.len() != 64 || digits != 64);
 }

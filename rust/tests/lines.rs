@@ -21,10 +21,8 @@ fn bytes(field: &str) -> Vec<u8> {
     if field == "-" {
         return Vec::new();
     }
-    (0..field.len())
-        .step_by(2)
-        .map(|place| u8::from_str_radix(&field[place..place + 2], 16).expect("digits"))
-        .collect()
+    let byte = |place| u8::from_str_radix(&field[place..place + 2], 16).expect("digits");
+    (0..field.len()).step_by(2).map(byte).collect()
 }
 
 /// The field that stands for bytes in an answer.
@@ -93,29 +91,11 @@ fn seal<V: Variant, const TAG_BYTES: usize>(keys: &Keys, message: &str) -> Strin
     format!("{} {}", field(&ciphertext), field(&tag))
 }
 
-/// Opens chunks in a destination with room left, and returns what it holds.
-fn open_chunks<V: Variant, const TAG_BYTES: usize>(
-    keys: &Keys,
-    chunks: &[Vec<u8>],
-    tag: &[u8; TAG_BYTES],
-) -> (Result<Vec<u8>, Error>, Vec<u8>) {
-    let mut buffer = vec![UNWRITTEN; chunks.concat().len() + ROOM];
-    let mut decryptor = keys
-        .cipher::<V, TAG_BYTES>()
-        .decryptor(&keys.ad, &mut buffer);
-    for chunk in chunks {
-        decryptor.update(chunk).expect("there is room");
-    }
-    let opened = decryptor.finalize(tag).map(|message| message.to_vec());
-    (opened, buffer)
-}
-
 fn open<V: Variant, const TAG_BYTES: usize>(keys: &Keys, ciphertext: &str, tag: &str) -> String {
     let joined = pieces(ciphertext).concat();
     let tag = bytes(tag).try_into().expect("a tag of that length");
-    let opened = keys
-        .cipher::<V, TAG_BYTES>()
-        .decrypt(&joined, &tag, &keys.ad);
+    let cipher = keys.cipher::<V, TAG_BYTES>();
+    let opened = cipher.decrypt(&joined, &tag, &keys.ad);
 
     let mut mc = joined.clone();
     let in_place = keys.cipher::<V, TAG_BYTES>();
@@ -125,7 +105,13 @@ fn open<V: Variant, const TAG_BYTES: usize>(keys: &Keys, ciphertext: &str, tag: 
     assert_eq!(mc, *opened.as_ref().unwrap_or(&erased));
 
     for chunks in cuts(ciphertext) {
-        let (in_chunks, mut buffer) = open_chunks::<V, TAG_BYTES>(keys, &chunks, &tag);
+        let mut buffer = vec![UNWRITTEN; joined.len() + ROOM];
+        let cipher = keys.cipher::<V, TAG_BYTES>();
+        let mut decryptor = cipher.decryptor(&keys.ad, &mut buffer);
+        for chunk in &chunks {
+            decryptor.update(chunk).expect("there is room");
+        }
+        let in_chunks = decryptor.finalize(&tag).map(|message| message.to_vec());
         assert_eq!(in_chunks, opened);
         assert_eq!(buffer.split_off(joined.len()), [UNWRITTEN; ROOM]);
         let zeros = vec![0; joined.len()];
@@ -185,50 +171,38 @@ fn mac<V: Variant, const TAG_BYTES: usize>(keys: &Keys, input: &str) -> String {
 
 fn answer<V: Variant, const TAG_BYTES: usize>(fields: &[&str]) -> String {
     match *fields {
-        ["seal", _, _, key, nonce, ad, message] => {
-            seal::<V, TAG_BYTES>(&Keys::new(key, nonce, ad), message)
-        }
-        ["open", _, _, key, nonce, ad, ciphertext, tag] => {
-            open::<V, TAG_BYTES>(&Keys::new(key, nonce, ad), ciphertext, tag)
-        }
-        ["stream", _, key, nonce, length] => {
-            stream::<V, TAG_BYTES>(&Keys::new(key, nonce, "-"), length)
-        }
-        ["xor", _, key, nonce, message] => {
-            xor::<V, TAG_BYTES>(&Keys::new(key, nonce, "-"), message)
-        }
-        ["mac", _, _, key, nonce, input] => mac::<V, TAG_BYTES>(&Keys::new(key, nonce, "-"), input),
+        ["seal", _, _, k, n, ad, message] => seal::<V, TAG_BYTES>(&Keys::new(k, n, ad), message),
+        ["open", _, _, k, n, ad, c, tag] => open::<V, TAG_BYTES>(&Keys::new(k, n, ad), c, tag),
+        ["stream", _, k, n, length] => stream::<V, TAG_BYTES>(&Keys::new(k, n, "-"), length),
+        ["xor", _, k, n, message] => xor::<V, TAG_BYTES>(&Keys::new(k, n, "-"), message),
+        ["mac", _, _, k, n, input] => mac::<V, TAG_BYTES>(&Keys::new(k, n, "-"), input),
         _ => panic!("no call gives the answer to {fields:?}"),
     }
 }
 
-/// The answers of a variant, with tags of 16 and of 32 bytes.
-fn answers<V: Variant>(long_tag: bool) -> fn(&[&str]) -> String {
-    if long_tag {
-        answer::<V, 32>
-    } else {
-        answer::<V, 16>
+/// The answer to a line of a variant. The tag length of a keystream makes no difference, so both are tried.
+fn answer_of<V: Variant>(fields: &[&str]) -> String {
+    if matches!(fields[0], "stream" | "xor") {
+        assert_eq!(answer::<V, 16>(fields), answer::<V, 32>(fields));
+    }
+    match fields[2] {
+        "32" => answer::<V, 32>(fields),
+        _ => answer::<V, 16>(fields),
     }
 }
 
-/// The answer to a line. The tag length of a keystream makes no difference, so both are tried.
 fn line_answer(line: &str) -> String {
     let fields: Vec<&str> = line.split(' ').collect();
-    let of_variant = match fields[1] {
-        "aegis128l" => answers::<variants::Aegis128L>,
-        "aegis128x2" => answers::<variants::Aegis128X2>,
-        "aegis128x4" => answers::<variants::Aegis128X4>,
-        "aegis256" => answers::<variants::Aegis256>,
-        "aegis256x2" => answers::<variants::Aegis256X2>,
-        "aegis256x4" => answers::<variants::Aegis256X4>,
+    let answer = match fields[1] {
+        "aegis128l" => answer_of::<variants::Aegis128L>,
+        "aegis128x2" => answer_of::<variants::Aegis128X2>,
+        "aegis128x4" => answer_of::<variants::Aegis128X4>,
+        "aegis256" => answer_of::<variants::Aegis256>,
+        "aegis256x2" => answer_of::<variants::Aegis256X2>,
+        "aegis256x4" => answer_of::<variants::Aegis256X4>,
         name => panic!("{name} is no variant"),
     };
-    if matches!(fields[0], "stream" | "xor") {
-        let answer = of_variant(false)(&fields);
-        assert_eq!(of_variant(true)(&fields), answer);
-        return answer;
-    }
-    of_variant(fields[2] == "32")(&fields)
+    answer(&fields)
 }
 
 /// Checks that the lines of a file have their answers, and that there are so many of them.
@@ -239,10 +213,8 @@ fn check(name: &str, count: usize) {
         fs::read_to_string(&path).unwrap_or_else(|error| panic!("{}: {error}", path.display()))
     };
     let (lines, answers) = (read("in"), read("out"));
-    assert_eq!(
-        (lines.lines().count(), answers.lines().count()),
-        (count, count)
-    );
+    let counts = [&lines, &answers].map(|text| text.lines().count());
+    assert_eq!(counts, [count; 2]);
     for (line, expected) in lines.lines().zip(answers.lines()) {
         assert_eq!(line_answer(line), expected, "{line}");
     }

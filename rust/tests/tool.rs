@@ -69,9 +69,7 @@ const LENGTHS: [usize; 6] = [0, 1, PIECE_BYTES - 1, PIECE_BYTES, PIECE_BYTES + 1
 /// Each opens what the other has sealed, byte for byte the same file.
 #[test]
 fn files_of_each_other() {
-    let Some(tool) = tool("files_of_each_other") else {
-        return;
-    };
+    let Some(tool) = tool("files") else { return };
     tool.done(&["keygen", "key"]);
     let key = read_key(tool.path("key")).unwrap();
     for length in LENGTHS {
@@ -124,44 +122,30 @@ fn parts() {
 /// What is damaged is rejected by both after the same bytes.
 #[test]
 fn damaged_files() {
-    let Some(tool) = tool("damaged_files") else {
-        return;
-    };
+    let Some(tool) = tool("damaged") else { return };
     for damaged in damaged() {
         fs::write(tool.path("sealed"), &damaged.bytes).unwrap();
-        let digits: String = damaged
-            .key
-            .iter()
-            .map(|byte| format!("{byte:02x}"))
-            .collect();
+        let digits = damaged.key.map(|byte| format!("{byte:02x}")).concat();
         fs::write(tool.path("key"), digits + "\n").unwrap();
         let output = tool.run(&["open", "-q", "-k", "key", "sealed", "-"]);
         let mut reader = SealedReader::new(&damaged.bytes[..], &damaged.key);
         let mut contents = Vec::new();
         let fault = reader.read_to_end(&mut contents).err();
+        let (fault, name) = (fault.as_ref().map(fault_of), damaged.name);
         assert_eq!(
-            fault.as_ref().map(fault_of),
-            damaged.cause,
-            "{}",
-            damaged.name
+            (fault, &output.stdout),
+            (damaged.cause, &contents),
+            "{name}"
         );
-        assert_eq!(output.stdout, contents, "{}", damaged.name);
         let status = i32::from(damaged.cause.is_some());
-        assert_eq!(
-            output.status.code(),
-            Some(status),
-            "{} {output:?}",
-            damaged.name
-        );
+        assert_eq!(output.status.code(), Some(status), "{name} {output:?}");
     }
 }
 
 /// Key files are refused by both.
 #[test]
 fn key_files() {
-    let Some(tool) = tool("key_files") else {
-        return;
-    };
+    let Some(tool) = tool("keys") else { return };
     fs::write(tool.path("in"), "contents").unwrap();
     let digits = "00fF1aA2".repeat(8);
     let texts = [

@@ -1,7 +1,5 @@
 //! Files that are read and written at any place: beside a vector that holds the same text, after crashes, errors and damage,
-//! at paths, and as programs are written for the crate `aegis`.
-
-extern crate hunkravy as aegis;
+//! and at paths.
 
 mod attacks;
 mod batches;
@@ -16,5 +14,4 @@ mod nested;
 mod paths;
 #[path = "../sealed/random.rs"]
 mod random;
-mod samples;
 mod support;
