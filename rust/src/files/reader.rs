@@ -1,6 +1,7 @@
 //! Opening a file.
 
 use super::{CONTEXT, HEAD_BYTES, Key, PIECE_BYTES};
+use crate::memory::with_room;
 use crate::records::{Error, Opener, Prefix, RECORD_BYTES, RECORD_HEAD_BYTES};
 use crate::wipe::Wiped;
 use alloc::vec::Vec;
@@ -122,8 +123,7 @@ impl<R> SealedReader<R> {
     /// Returns the verified bytes from the position on.
     fn unread(&self) -> &[u8] {
         let message = self.record.0.get(RECORD_HEAD_BYTES..).unwrap_or(&[]);
-        let skipped = usize::try_from(self.position - self.start);
-        let skipped = skipped.map_or(self.length, |skipped| skipped.min(self.length));
+        let skipped = (self.position - self.start).min(self.length as u64) as usize;
         &message[..self.length.min(message.len())][skipped..]
     }
 
@@ -156,18 +156,14 @@ impl<R: Read> SealedReader<R> {
         }
         self.fill(HEAD_BYTES)?;
         let head = &self.record.0[..self.filled];
-        let Some((prefix, header)) = head.split_first_chunk() else {
-            return Err(self.fail(Error::Header));
-        };
-        match Opener::new(&self.key.0, prefix, CONTEXT, header) {
-            Ok(opener) => {
-                self.prefix = *prefix;
-                self.opener = Some(opener);
-                self.filled = 0;
-                Ok(())
-            }
-            Err(fault) => Err(self.fail(fault)),
-        }
+        let begun = head.split_first_chunk().ok_or(Error::Header);
+        let begun = begun.and_then(|(prefix, header)| {
+            self.prefix = *prefix;
+            Opener::new(&self.key.0, prefix, CONTEXT, header)
+        });
+        self.opener = Some(begun.map_err(|fault| self.fail(fault))?);
+        self.filled = 0;
+        Ok(())
     }
 
     /// Returns an error if anything follows the last record.
@@ -224,9 +220,7 @@ impl<R: Read> SealedReader<R> {
     fn grow(&mut self, end: usize) -> io::Result<()> {
         let old = &self.record.0;
         let length = end.min(FIRST_BYTES.max(2 * old.len()));
-        let mut new = Vec::new();
-        let taken = new.try_reserve_exact(length);
-        taken.map_err(|_| ErrorKind::OutOfMemory)?;
+        let mut new = with_room(length)?;
         new.extend_from_slice(old);
         new.resize(length, 0);
         self.record = Wiped(new);

@@ -42,14 +42,8 @@ pub struct OpenedInPlace<'b> {
 pub struct Opener<'c> {
     records: Records<'c>,
     next: Position,
-    end: Option<End>,
-}
-
-/// How a stream has ended.
-#[derive(Clone, Copy)]
-enum End {
-    Last,
-    Fault(Error),
+    /// What further calls return: a fault, or after the last record that nothing may follow it.
+    end: Option<Error>,
 }
 
 impl<'c> Opener<'c> {
@@ -124,7 +118,7 @@ impl<'c> Opener<'c> {
     /// Returns whether the last record was opened.
     #[must_use]
     pub fn has_ended(&self) -> bool {
-        matches!(self.end, Some(End::Last))
+        self.end == Some(Error::Trailing)
     }
 
     /// Returns the length of the next record in bytes, from its first five bytes. It is at most 16 MiB and 37 bytes.
@@ -214,38 +208,29 @@ impl<'c> Opener<'c> {
     /// is not empty.
     pub fn finish(self, rest: &[u8]) -> Result<(), Error> {
         match self.end {
-            Some(End::Fault(error)) => Err(error),
-            None => Err(Error::Truncated),
-            Some(End::Last) if !rest.is_empty() => Err(Error::Trailing),
-            Some(End::Last) => Ok(()),
+            Some(Error::Trailing) if rest.is_empty() => Ok(()),
+            end => Err(end.unwrap_or(Error::Truncated)),
         }
     }
 
     fn check(&self) -> Result<(), Error> {
-        match self.end {
-            None => Ok(()),
-            Some(End::Last) => Err(Error::Trailing),
-            Some(End::Fault(error)) => Err(error),
-        }
+        self.end.map_or(Ok(()), Err)
     }
 
     /// Keeps the error, and returns it.
     fn fail(&mut self, error: Error) -> Error {
-        self.end = Some(End::Fault(error));
+        self.end = Some(error);
         error
     }
 
     /// Returns how many bytes the record has with which `bytes` begin, if they have all of it.
     fn first_len(&mut self, bytes: &[u8]) -> Result<usize, Error> {
         self.check()?;
-        let Some(head) = bytes.first_chunk() else {
-            let has_flag = bytes.first().is_some_and(|flag| *flag > 1);
-            return Err(self.fail(if has_flag {
-                Error::Flag
-            } else {
-                Error::Truncated
-            }));
+        let fault = match bytes.first() {
+            Some(2..) => Error::Flag,
+            _ => Error::Truncated,
         };
+        let head = bytes.first_chunk().ok_or_else(|| self.fail(fault))?;
         let length = self.record_len(head)?;
         if bytes.len() < length {
             return Err(self.fail(Error::Truncated));
@@ -264,7 +249,7 @@ impl<'c> Opener<'c> {
         }
         self.next.number += 1;
         self.next.before += message_len as u64;
-        self.end = (is_last == 1).then_some(End::Last);
+        self.end = (is_last == 1).then_some(Error::Trailing);
         Ok(self.has_ended())
     }
 }
