@@ -145,7 +145,7 @@ fn calls(disks: &Disks) -> String {
     let shown = |(part, call): (Part, Call)| match call {
         Call::Write(place, _) => format!("{part:?} write {place}"),
         Call::Resize(size) => format!("{part:?} resize {size}"),
-        Call::Sync => format!("{part:?} sync"),
+        _ => format!("{part:?} sync"),
     };
     let shown: Vec<String> = disks.log().calls.drain(..).map(shown).collect();
     shown.join(", ")

@@ -96,6 +96,7 @@ pub enum Call {
     Write(u64, Vec<u8>),
     Resize(u64),
     Sync,
+    FailedSync,
 }
 
 /// The file, or its journal.
@@ -105,12 +106,13 @@ pub enum Part {
     Journal,
 }
 
-/// What the disks of a file and of its journal have in common: their calls, in order, how many of them and how many reads
-/// still succeed, how often one was locked, and how many sources of random bytes were made.
+/// What the disks of a file and of its journal have in common: their calls, in order, how many of them still succeed, and how many
+/// reads and syncs, how often one was locked, and how many sources of random bytes were made. One sync fails, and then no other.
 pub struct Log {
     pub calls: Vec<(Part, Call)>,
     pub left: usize,
     pub reads_left: usize,
+    pub syncs_left: usize,
     pub locks: usize,
     pub seed: u64,
     /// Whether calls are kept.
@@ -172,7 +174,10 @@ impl RafIo for Disk {
     }
 
     fn sync(&mut self) -> io::Result<()> {
-        self.log(|| Call::Sync)
+        let left = self.log.borrow().syncs_left.checked_sub(1);
+        self.log.borrow_mut().syncs_left = left.unwrap_or(usize::MAX);
+        self.log(|| left.map_or(Call::FailedSync, |_| Call::Sync))?;
+        left.map(drop).ok_or(io::Error::from_raw_os_error(5))
     }
 
     fn lock(&mut self) -> Result<()> {
@@ -207,6 +212,7 @@ impl Disks {
             calls: Vec::new(),
             left: usize::MAX,
             reads_left: usize::MAX,
+            syncs_left: usize::MAX,
             locks: 0,
             seed: 5,
             is_on: true,
@@ -247,6 +253,11 @@ impl Disks {
     pub fn bytes(&self) -> Bytes {
         let bytes = |disk: &Disk| disk.bytes.borrow().clone();
         (bytes(&self.file), bytes(&self.journal))
+    }
+
+    pub fn set(&self, (file, journal): &Bytes) {
+        self.file.bytes.borrow_mut().clone_from(file);
+        self.journal.bytes.borrow_mut().clone_from(journal);
     }
 
     /// A builder of files in pages of 256 bytes, with another source of random bytes each time.
@@ -353,31 +364,40 @@ fn apply(bytes: &mut Vec<u8>, change: &Call) {
     match change {
         Call::Write(offset, data) => put(bytes, *offset, data),
         Call::Resize(size) => bytes.resize(*size as usize, 0),
-        Call::Sync => (),
+        Call::Sync | Call::FailedSync => (),
     }
 }
 
 /// Returns what a crash may leave of bytes that were synced, and then changed by these calls.
 fn torn(mut bytes: Vec<u8>, calls: &[&Call], random: &mut Random) -> Vec<u8> {
-    let synced = calls.iter().rposition(|call| **call == Call::Sync);
-    let (certain, pending) = calls.split_at(synced.map_or(0, |at| at + 1));
-    certain.iter().for_each(|call| apply(&mut bytes, call));
+    let mut pending = Vec::new();
+    for call in calls.iter().chain([&&Call::FailedSync]) {
+        match call {
+            Call::Sync => pending.drain(..).for_each(|call| apply(&mut bytes, call)),
+            Call::FailedSync => lose(&mut bytes, pending.drain(..), random),
+            change => pending.push(*change),
+        }
+    }
+    bytes
+}
+
+/// Makes anything of changes.
+fn lose<'c>(bytes: &mut Vec<u8>, changes: impl Iterator<Item = &'c Call>, random: &mut Random) {
     let mut sizes = vec![bytes.len()];
     let mut whole = bytes.clone();
-    for change in pending {
+    for change in changes {
         apply(&mut whole, change);
         sizes.push(whole.len());
         if let Call::Write(offset, data) = change {
-            tear(&mut bytes, *offset, data, random);
+            tear(bytes, *offset, data, random);
         }
     }
     bytes.resize(sizes[random.below(sizes.len() as u64) as usize], 0);
-    bytes
 }
 
 /// Leaves any bytes where a write was to be: those of before, those of after, garbage, or what another file's journal
 /// begins with, in pieces of some length.
-pub fn tear(bytes: &mut Vec<u8>, offset: u64, data: &[u8], random: &mut Random) {
+fn tear(bytes: &mut Vec<u8>, offset: u64, data: &[u8], random: &mut Random) {
     let piece = [1, 16, 100, 512, 4096, data.len()][random.below(6) as usize].max(1);
     let kinds = 1 + random.below(4);
     let first = random.below(4);
