@@ -49,15 +49,12 @@ fn check_opens(bytes: &Bytes, before: &[u8], after: &[u8]) -> bool {
     text == after
 }
 
-/// Opening crashes too, at each of its calls: what it leaves opens to the text of before or the one after.
-fn check_opening_crashes(bytes: &Bytes, before: &[u8], after: &[u8], random: &mut Random) {
-    let opening = Disks::of(bytes.clone());
-    drop(opening.open().unwrap());
-    let calls = opening.log().calls.clone();
-    for count in 0..=calls.len() {
-        let left = crashed(bytes, &calls[..count], random);
-        check_opens(&left, before, after);
-    }
+/// Returns the calls of an opening.
+fn opening_of(bytes: &Bytes) -> Vec<(Part, Call)> {
+    let disks = Disks::of(bytes.clone());
+    drop(disks.open().unwrap());
+    let log = disks.log();
+    log.calls.clone()
 }
 
 /// Returns the calls of a commit, and the text after it.
@@ -72,83 +69,34 @@ fn committed(bytes: &Bytes, change: fn(&mut File) -> Result<()>) -> (Vec<(Part, 
     (calls, text_of(&mut file))
 }
 
+/// A crash in a commit, in an opening after it, or in both leaves what opens. So does a program that ends in the middle of a commit,
+/// and has written what is not synced, and then a crash in the next opening.
 #[test]
-fn each_call_of_a_commit() {
+fn each_call_of_a_commit_and_of_an_opening() {
     let (bytes, before) = begun();
     let mut random = Random(77);
     let mut seen = [0; 2];
     for change in CHANGES {
         let (calls, after) = committed(&bytes, change);
         for count in 0..=calls.len() {
+            let mut left = Bytes::default();
             for _ in 0..TRIES {
-                let left = crashed(&bytes, &calls[..count], &mut random);
+                left = crashed(&bytes, &calls[..count], &mut random);
                 let is_after = check_opens(&left, &before, &after);
                 seen[usize::from(is_after)] += 1;
                 assert!(is_after || count < calls.len());
             }
-            let left = crashed(&bytes, &calls[..count], &mut random);
-            check_opening_crashes(&left, &before, &after, &mut random);
-        }
-    }
-    assert!(seen[0] > 50 && seen[1] > 50, "{seen:?}");
-}
-
-/// Returns the journals that a crash may leave of a pending write of its beginning: as many of its bytes as `cut` are
-/// those of `front`, the others are new or are none yet, and it is cut off anywhere.
-fn torn_fronts(journal: &[u8], front: &[u8], cut: usize) -> Vec<Vec<u8>> {
-    let mut written = journal.to_vec();
-    written[..cut].copy_from_slice(&front[..cut]);
-    let mut unwritten = written.clone();
-    unwritten[cut..512].fill(0);
-    let sizes = [0, cut, 512, 513, journal.len() - 1, journal.len()];
-    let cut_off = |journal: &[u8], size: usize| journal[..size.min(journal.len())].to_vec();
-    let of_sizes = |journal: Vec<u8>| sizes.map(|size| cut_off(&journal, size));
-    [of_sizes(written), of_sizes(unwritten)].concat()
-}
-
-/// Whatever is left of the beginning of a journal, be it what the journal of another file begins with, the file
-/// opens.
-#[test]
-fn each_torn_front_of_a_journal() {
-    let (bytes, before) = begun();
-    let (calls, after) = committed(&bytes, CHANGES[0]);
-    let mut tries = 0;
-    for count in 0..=JOURNAL_CALLS {
-        let pending = calls[..count].rsplit(|call| call.1 == Call::Sync).next();
-        let is_front = |call: &(Part, Call)| matches!(call.1, Call::Write(0, _));
-        if !pending.is_some_and(|calls| calls.iter().any(is_front)) {
-            continue;
-        }
-        let (file, journal) = &changed(&bytes, &calls[..count]);
-        let fronts = [front_of_another(), [0; 512], [0xff; 512]];
-        let cuts = (0..=40).chain((48..=512).step_by(16));
-        let torn = cuts.flat_map(|cut| fronts.map(|front| torn_fronts(journal, &front, cut)));
-        for journal in torn.flatten() {
-            check_opens(&(file.clone(), journal), &before, &after);
-            tries += 1;
-        }
-    }
-    assert!(tries > 1000, "{tries}");
-}
-
-/// A program that ends in the middle of a commit loses nothing that it has written, though not all of it is synced. Then power
-/// is lost while the file is opened again.
-#[test]
-fn each_call_of_a_commit_and_of_an_opening_after_it() {
-    let (bytes, before) = begun();
-    let mut random = Random(79);
-    for change in CHANGES {
-        let (calls, after) = committed(&bytes, change);
-        for count in 0..=calls.len() {
-            let opening = Disks::of(changed(&bytes, &calls[..count]));
-            drop(opening.open().unwrap());
-            let all = [&calls[..count], &opening.log().calls].concat();
-            for end in (count..=all.len()).flat_map(|end| [end; 4]) {
-                let left = crashed(&bytes, &all[..end], &mut random);
-                check_opens(&left, &before, &after);
+            let ended = changed(&bytes, &calls[..count]);
+            let made = [&calls[..count], &opening_of(&ended)].concat();
+            for (start, calls) in [(&left, opening_of(&left)), (&bytes, made)] {
+                for end in (0..=calls.len()).flat_map(|end| [end; 2]) {
+                    let left = crashed(start, &calls[..end], &mut random);
+                    check_opens(&left, &before, &after);
+                }
             }
         }
     }
+    assert!(seen[0] > 50 && seen[1] > 50, "{seen:?}");
 }
 
 /// A crash while a file is created leaves none, or an empty one. Once it is created, it opens.
