@@ -155,117 +155,57 @@ HUNKRAVY_MUST_USE static inline int hunkravy_sodium_decrypt(uint32_t variant, un
     return result;
 }
 
-/* ---- AEGIS-128L */
+/* ---- The functions of a cipher: those above with its variant, a random key, and the constants below */
+
+#define HUNKRAVY_SODIUM_FUNCTIONS(cipher, variant) \
+    static inline size_t cipher##_keybytes(void) { return cipher##_KEYBYTES; } \
+    static inline size_t cipher##_nsecbytes(void) { return cipher##_NSECBYTES; } \
+    static inline size_t cipher##_npubbytes(void) { return cipher##_NPUBBYTES; } \
+    static inline size_t cipher##_abytes(void) { return cipher##_ABYTES; } \
+    static inline size_t cipher##_messagebytes_max(void) { return cipher##_MESSAGEBYTES_MAX; } \
+    static inline void cipher##_keygen(unsigned char k[cipher##_KEYBYTES]) { randombytes_buf(k, cipher##_KEYBYTES); } \
+    static inline int cipher##_encrypt_detached(unsigned char *c, unsigned char *mac, unsigned long long *maclen_p, \
+        const unsigned char *m, unsigned long long mlen, const unsigned char *ad, unsigned long long adlen, \
+        const unsigned char *nsec, const unsigned char *npub, const unsigned char *k) \
+    { \
+        (void)nsec; \
+        return hunkravy_sodium_encrypt_detached(variant, c, mac, maclen_p, m, mlen, ad, adlen, npub, k); \
+    } \
+    HUNKRAVY_MUST_USE static inline int cipher##_decrypt_detached(unsigned char *m, unsigned char *nsec, \
+        const unsigned char *c, unsigned long long clen, const unsigned char *mac, const unsigned char *ad, \
+        unsigned long long adlen, const unsigned char *npub, const unsigned char *k) \
+    { \
+        (void)nsec; \
+        return hunkravy_sodium_decrypt_detached(variant, m, c, clen, mac, ad, adlen, npub, k); \
+    } \
+    static inline int cipher##_encrypt(unsigned char *c, unsigned long long *clen_p, const unsigned char *m, \
+        unsigned long long mlen, const unsigned char *ad, unsigned long long adlen, const unsigned char *nsec, \
+        const unsigned char *npub, const unsigned char *k) \
+    { \
+        (void)nsec; \
+        return hunkravy_sodium_encrypt(variant, c, clen_p, m, mlen, ad, adlen, npub, k); \
+    } \
+    HUNKRAVY_MUST_USE static inline int cipher##_decrypt(unsigned char *m, unsigned long long *mlen_p, \
+        unsigned char *nsec, const unsigned char *c, unsigned long long clen, const unsigned char *ad, \
+        unsigned long long adlen, const unsigned char *npub, const unsigned char *k) \
+    { \
+        (void)nsec; \
+        return hunkravy_sodium_decrypt(variant, m, mlen_p, c, clen, ad, adlen, npub, k); \
+    }
 
 #define crypto_aead_aegis128l_KEYBYTES 16U
 #define crypto_aead_aegis128l_NSECBYTES 0U
 #define crypto_aead_aegis128l_NPUBBYTES 16U
 #define crypto_aead_aegis128l_ABYTES HUNKRAVY_SODIUM_TAG_BYTES
 #define crypto_aead_aegis128l_MESSAGEBYTES_MAX HUNKRAVY_SODIUM_MOST_BYTES
-
-static inline size_t crypto_aead_aegis128l_keybytes(void) { return crypto_aead_aegis128l_KEYBYTES; }
-static inline size_t crypto_aead_aegis128l_nsecbytes(void) { return crypto_aead_aegis128l_NSECBYTES; }
-static inline size_t crypto_aead_aegis128l_npubbytes(void) { return crypto_aead_aegis128l_NPUBBYTES; }
-static inline size_t crypto_aead_aegis128l_abytes(void) { return crypto_aead_aegis128l_ABYTES; }
-static inline size_t crypto_aead_aegis128l_messagebytes_max(void) { return crypto_aead_aegis128l_MESSAGEBYTES_MAX; }
-
-/* Writes a random key to `k`. */
-static inline void crypto_aead_aegis128l_keygen(unsigned char k[crypto_aead_aegis128l_KEYBYTES])
-{
-    randombytes_buf(k, crypto_aead_aegis128l_KEYBYTES);
-}
-
-/* Calls hunkravy_sodium_encrypt_detached with AEGIS-128L. */
-static inline int crypto_aead_aegis128l_encrypt_detached(unsigned char *c, unsigned char *mac, unsigned long long *maclen_p,
-    const unsigned char *m, unsigned long long mlen, const unsigned char *ad, unsigned long long adlen,
-    const unsigned char *nsec, const unsigned char *npub, const unsigned char *k)
-{
-    (void)nsec;
-    return hunkravy_sodium_encrypt_detached(HUNKRAVY_AEGIS128L, c, mac, maclen_p, m, mlen, ad, adlen, npub, k);
-}
-
-/* Calls hunkravy_sodium_decrypt_detached with AEGIS-128L. */
-HUNKRAVY_MUST_USE static inline int crypto_aead_aegis128l_decrypt_detached(unsigned char *m, unsigned char *nsec,
-    const unsigned char *c, unsigned long long clen, const unsigned char *mac, const unsigned char *ad,
-    unsigned long long adlen, const unsigned char *npub, const unsigned char *k)
-{
-    (void)nsec;
-    return hunkravy_sodium_decrypt_detached(HUNKRAVY_AEGIS128L, m, c, clen, mac, ad, adlen, npub, k);
-}
-
-/* Calls hunkravy_sodium_encrypt with AEGIS-128L. */
-static inline int crypto_aead_aegis128l_encrypt(unsigned char *c, unsigned long long *clen_p, const unsigned char *m,
-    unsigned long long mlen, const unsigned char *ad, unsigned long long adlen, const unsigned char *nsec,
-    const unsigned char *npub, const unsigned char *k)
-{
-    (void)nsec;
-    return hunkravy_sodium_encrypt(HUNKRAVY_AEGIS128L, c, clen_p, m, mlen, ad, adlen, npub, k);
-}
-
-/* Calls hunkravy_sodium_decrypt with AEGIS-128L. */
-HUNKRAVY_MUST_USE static inline int crypto_aead_aegis128l_decrypt(unsigned char *m, unsigned long long *mlen_p,
-    unsigned char *nsec, const unsigned char *c, unsigned long long clen, const unsigned char *ad,
-    unsigned long long adlen, const unsigned char *npub, const unsigned char *k)
-{
-    (void)nsec;
-    return hunkravy_sodium_decrypt(HUNKRAVY_AEGIS128L, m, mlen_p, c, clen, ad, adlen, npub, k);
-}
-
-/* ---- AEGIS-256 */
+HUNKRAVY_SODIUM_FUNCTIONS(crypto_aead_aegis128l, HUNKRAVY_AEGIS128L)
 
 #define crypto_aead_aegis256_KEYBYTES 32U
 #define crypto_aead_aegis256_NSECBYTES 0U
 #define crypto_aead_aegis256_NPUBBYTES 32U
 #define crypto_aead_aegis256_ABYTES HUNKRAVY_SODIUM_TAG_BYTES
 #define crypto_aead_aegis256_MESSAGEBYTES_MAX HUNKRAVY_SODIUM_MOST_BYTES
-
-static inline size_t crypto_aead_aegis256_keybytes(void) { return crypto_aead_aegis256_KEYBYTES; }
-static inline size_t crypto_aead_aegis256_nsecbytes(void) { return crypto_aead_aegis256_NSECBYTES; }
-static inline size_t crypto_aead_aegis256_npubbytes(void) { return crypto_aead_aegis256_NPUBBYTES; }
-static inline size_t crypto_aead_aegis256_abytes(void) { return crypto_aead_aegis256_ABYTES; }
-static inline size_t crypto_aead_aegis256_messagebytes_max(void) { return crypto_aead_aegis256_MESSAGEBYTES_MAX; }
-
-/* Writes a random key to `k`. */
-static inline void crypto_aead_aegis256_keygen(unsigned char k[crypto_aead_aegis256_KEYBYTES])
-{
-    randombytes_buf(k, crypto_aead_aegis256_KEYBYTES);
-}
-
-/* Calls hunkravy_sodium_encrypt_detached with AEGIS-256. */
-static inline int crypto_aead_aegis256_encrypt_detached(unsigned char *c, unsigned char *mac, unsigned long long *maclen_p,
-    const unsigned char *m, unsigned long long mlen, const unsigned char *ad, unsigned long long adlen,
-    const unsigned char *nsec, const unsigned char *npub, const unsigned char *k)
-{
-    (void)nsec;
-    return hunkravy_sodium_encrypt_detached(HUNKRAVY_AEGIS256, c, mac, maclen_p, m, mlen, ad, adlen, npub, k);
-}
-
-/* Calls hunkravy_sodium_decrypt_detached with AEGIS-256. */
-HUNKRAVY_MUST_USE static inline int crypto_aead_aegis256_decrypt_detached(unsigned char *m, unsigned char *nsec,
-    const unsigned char *c, unsigned long long clen, const unsigned char *mac, const unsigned char *ad,
-    unsigned long long adlen, const unsigned char *npub, const unsigned char *k)
-{
-    (void)nsec;
-    return hunkravy_sodium_decrypt_detached(HUNKRAVY_AEGIS256, m, c, clen, mac, ad, adlen, npub, k);
-}
-
-/* Calls hunkravy_sodium_encrypt with AEGIS-256. */
-static inline int crypto_aead_aegis256_encrypt(unsigned char *c, unsigned long long *clen_p, const unsigned char *m,
-    unsigned long long mlen, const unsigned char *ad, unsigned long long adlen, const unsigned char *nsec,
-    const unsigned char *npub, const unsigned char *k)
-{
-    (void)nsec;
-    return hunkravy_sodium_encrypt(HUNKRAVY_AEGIS256, c, clen_p, m, mlen, ad, adlen, npub, k);
-}
-
-/* Calls hunkravy_sodium_decrypt with AEGIS-256. */
-HUNKRAVY_MUST_USE static inline int crypto_aead_aegis256_decrypt(unsigned char *m, unsigned long long *mlen_p,
-    unsigned char *nsec, const unsigned char *c, unsigned long long clen, const unsigned char *ad,
-    unsigned long long adlen, const unsigned char *npub, const unsigned char *k)
-{
-    (void)nsec;
-    return hunkravy_sodium_decrypt(HUNKRAVY_AEGIS256, m, mlen_p, c, clen, ad, adlen, npub, k);
-}
+HUNKRAVY_SODIUM_FUNCTIONS(crypto_aead_aegis256, HUNKRAVY_AEGIS256)
 
 #ifdef __cplusplus
 }
