@@ -892,12 +892,16 @@ typedef struct {
     unsigned long thread;
 } Batch;
 
-static PyObject *batch_new(PyTypeObject *type, PyObject *file, PyObject *named)
+static PyObject *batch_new(PyTypeObject *type, PyObject *arguments, PyObject *named)
 {
-    Batch *self = PyTuple_Size(file) == 1 ? (Batch *)PyType_GenericAlloc(type, 0) : NULL;
+    PyObject *file;
     (void)named;
+    if (!PyArg_ParseTuple(arguments, "O", &file)) {
+        return NULL;
+    }
+    Batch *self = (Batch *)PyType_GenericAlloc(type, 0);
     if (self != NULL) {
-        self->file = Py_NewRef(PyTuple_GetItem(file, 0));
+        self->file = Py_NewRef(file);
     }
     return (PyObject *)self;
 }
@@ -984,6 +988,7 @@ static void end(Batch *self, bool is_whole)
         }
         remove_batch(self);
     }
+    PyErr_Clear();
     Py_CLEAR(self->savepoint);
     leave(self->lock);
     PyErr_Restore(kind, error, traceback);
