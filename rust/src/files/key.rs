@@ -62,7 +62,7 @@ fn key_of(bytes: &[u8]) -> Option<Key> {
         return None;
     }
     for (byte, pair) in key.iter_mut().zip(digits.as_bytes().chunks_exact(2)) {
-        *byte = digit(pair[0])? << 4 | digit(pair[1])?;
+        *byte = (digit(pair[0])? << 4) | digit(pair[1])?;
     }
     Some(key)
 }
