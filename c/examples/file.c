@@ -66,6 +66,13 @@ static int emptied(int fd)
     return ftruncate(fd, 0) == 0 && fsync(fd) == 0;
 }
 
+/* Each name of a file would have a journal, and a journal of several names may be another file. */
+static int has_one_name(int fd)
+{
+    struct stat found;
+    return fstat(fd, &found) == 0 && S_ISREG(found.st_mode) && found.st_nlink == 1;
+}
+
 static int seal_header(const struct file *file, uint8_t *block, uint64_t counter, uint64_t length)
 {
     uint8_t nonce[NONCE_BYTES];
@@ -219,7 +226,6 @@ static int commit(const struct file *file, struct write *writes, size_t count, u
 static int begin(struct file *file, const char *key_path, const char *path)
 {
     struct flock whole = {.l_type = F_WRLCK, .l_whence = SEEK_SET};
-    struct stat found;
     char real[PATH_BYTES], folder[PATH_BYTES];
     file->fd = open(path, O_RDWR | O_CREAT, 0600);
     /* The journal of a file is beside it, and not beside a link to it. */
@@ -230,12 +236,11 @@ static int begin(struct file *file, const char *key_path, const char *path)
     }
     strcpy(folder, real);
     file->folder = open(dirname(folder), O_RDONLY);
-    /* Each name of a file would have a journal. */
-    if (fcntl(file->fd, F_SETLK, &whole) != 0 || fstat(file->fd, &found) != 0 || found.st_nlink != 1) {
+    if (fcntl(file->fd, F_SETLK, &whole) != 0 || !has_one_name(file->fd)) {
         return 0;
     }
     file->journal = open(file->journal_path, O_RDWR | O_CREAT | O_NOFOLLOW, 0600);
-    return fsync(file->folder) == 0 && open_file(file);
+    return has_one_name(file->journal) && fsync(file->folder) == 0 && open_file(file);
 }
 
 int main(int count, char **arguments)

@@ -330,6 +330,8 @@ static void check_names(void)
     HOLDS(symlink(key_path, journal_path) == 0 && !begin(&file, key_path, path) && unlink(journal_path) == 0);
     HOLDS(get_key(open(key_path, O_RDONLY), key));
     HOLDS(link(path, copy_path) == 0 && !begin(&file, key_path, path) && unlink(copy_path) == 0);
+    HOLDS(link(key_path, journal_path) == 0 && !begin(&file, key_path, path) && unlink(journal_path) == 0);
+    HOLDS(get_key(open(key_path, O_RDONLY), key));
     HOLDS(unlink(path) == 0);
 }
 

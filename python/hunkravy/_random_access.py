@@ -301,7 +301,7 @@ class RandomAccessFile(variants.Secret, turns.Turns):
         self._is_broken = False
         self._cipher = _native.Cipher(cipher._VARIANT, key, TAG_BYTES)
         self._nonce_bytes = cipher.NONCE_BYTES
-        self._path = os.path.realpath(path)
+        self._path = os.path.realpath(os.fsdecode(path))
         self._file = os.open(self._path, flags | os.O_CLOEXEC, 0o666)
         self._journal = Journal(self._path, self._file)
         try:

@@ -309,6 +309,10 @@ class Files(unittest.TestCase):
             self.assertEqual(file.read_at(place, length), model[place : place + length])
         file.close()
 
+    def test_a_path_in_bytes(self) -> None:
+        RandomAccessFile.create(os.fsencode(self.path), KEY).close()  # type: ignore[arg-type]
+        self.assertEqual(contents(self.path), b"")
+
     def test_the_default_page_fills_a_block(self) -> None:
         for variant in (Aegis128L, Aegis256):
             path = self.folder / variant.name
