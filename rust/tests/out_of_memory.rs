@@ -149,7 +149,7 @@ fn quiet(bytes: &Bytes) -> Disks {
     for disk in [&disks.file, &disks.journal] {
         disk.bytes.borrow_mut().reserve(200_000);
     }
-    disks.log().is_on = false;
+    disks.log().is_off = true;
     disks
 }
 

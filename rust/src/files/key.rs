@@ -1,6 +1,7 @@
 //! Key files.
 
 use super::Key;
+use crate::memory::with_room;
 use crate::wipe::Wiped;
 use std::fs::File;
 use std::io::{self, ErrorKind, Read};
@@ -26,29 +27,17 @@ const MOST_BYTES: usize = 66;
 /// # Ok::<(), std::io::Error>(())
 /// ```
 pub fn read_key(path: impl AsRef<Path>) -> io::Result<Key> {
-    let mut bytes = Wiped([0; MOST_BYTES + 1]);
-    let count = read_all(&mut File::open(path)?, &mut bytes.0)?;
+    // With so much room the standard library reads into the vector itself, which does not grow.
+    let mut bytes = Wiped(with_room(4096)?);
+    let mut file = File::open(path)?.take(MOST_BYTES as u64 + 1);
+    file.read_to_end(&mut bytes.0)?;
     let no_key = || {
         io::Error::new(
             ErrorKind::InvalidData,
             "not a key file: expected 64 hexadecimal digits",
         )
     };
-    key_of(&bytes.0[..count]).ok_or_else(no_key)
-}
-
-/// Reads to the end of the file or of the buffer, and returns how many bytes.
-fn read_all(file: &mut impl Read, buf: &mut [u8]) -> io::Result<usize> {
-    let mut count = 0;
-    while count < buf.len() {
-        match file.read(&mut buf[count..]) {
-            Ok(0) => break,
-            Ok(more) => count += more,
-            Err(error) if error.kind() == ErrorKind::Interrupted => (),
-            Err(error) => return Err(error),
-        }
-    }
-    Ok(count)
+    key_of(&bytes.0).ok_or_else(no_key)
 }
 
 /// Returns the key of the bytes of a key file.
@@ -74,11 +63,10 @@ fn digit(byte: u8) -> Option<u8> {
 
 #[cfg(test)]
 mod tests {
-    use super::{key_of, read_all, read_key};
+    use super::{key_of, read_key};
     use alloc::format;
     use alloc::string::String;
     use core::mem::MaybeUninit;
-    use std::io::{self, ErrorKind, Read};
     use std::path::Path;
 
     #[test]
@@ -133,30 +121,5 @@ mod tests {
         assert_eq!(read_below(&path), [0xc7; 32]);
         assert!(!is_left(&b"c7".repeat(8)));
         std::fs::remove_file(&path).unwrap();
-    }
-
-    /// A file that gives a byte a read, is interrupted before each, and then fails.
-    struct Slow(bool, u8);
-
-    impl Read for Slow {
-        fn read(&mut self, buf: &mut [u8]) -> io::Result<usize> {
-            self.0 = !self.0;
-            if self.0 {
-                return Err(ErrorKind::Interrupted.into());
-            }
-            self.1 = self.1.checked_sub(1).ok_or(ErrorKind::Other)?;
-            buf[0] = self.1;
-            Ok(1)
-        }
-    }
-
-    #[test]
-    fn short_reads() {
-        let mut buf = [9; 4];
-        assert_eq!(read_all(&mut Slow(false, 4), &mut buf).unwrap(), 4);
-        assert_eq!(buf, [3, 2, 1, 0]);
-        assert_eq!(read_all(&mut &[1, 2, 3][..], &mut buf).unwrap(), 3);
-        let error = read_all(&mut Slow(false, 3), &mut buf).unwrap_err();
-        assert_eq!(error.kind(), ErrorKind::Other);
     }
 }

@@ -1,7 +1,7 @@
 //! How a file is created or opened.
 
 use super::changes::Changes;
-use super::io::{Beside, FileIo, JournalChoice, JournalFile, RafIo, journal_path};
+use super::io::{Beside, FileIo, JournalChoice, JournalFile, RafIo};
 use super::journal::empty;
 use super::layout::{ID_BYTES, Layout, PageHeader, is_chunk_size};
 use super::recovery::recover;
@@ -277,7 +277,7 @@ fn room_for_reads<A: Algorithm>(layout: &Layout<A>) -> io::Result<Vec<u8>> {
 /// Returns an error if a file that is to be created has a journal: [`Error::Locked`] if the file is open elsewhere. Its
 /// journal then belongs to a running commit.
 fn check_no_journal(path: &Path) -> Result<()> {
-    let mut journal = JournalFile::at(Some(journal_path(path)?));
+    let mut journal = JournalFile::beside(path)?;
     if matches!(journal.get_size(), Ok(0)) {
         return Ok(());
     }

@@ -2,8 +2,7 @@
 
 use super::system::{Process, forget, lock, take_room, unlock};
 use super::{Error, Result};
-use crate::memory::{check_memory, zeros};
-use alloc::vec::Vec;
+use crate::memory::check_memory;
 use std::ffi::{OsStr, OsString};
 use std::fs::{self, File, Metadata, OpenOptions, Permissions};
 use std::io::{self, Read};
@@ -369,7 +368,13 @@ pub struct JournalFile {
 }
 
 impl JournalFile {
-    pub(super) fn at(path: Option<PathBuf>) -> Self {
+    /// The journal of a file at a path, of which there need not be one yet.
+    pub(super) fn beside(path: &Path) -> io::Result<Self> {
+        check_memory()?;
+        Ok(Self::at(Some(with_journal(&resolved(path)?))))
+    }
+
+    fn at(path: Option<PathBuf>) -> Self {
         JournalFile {
             path,
             file: None,
@@ -516,12 +521,6 @@ fn is_same(one: &Metadata, other: &Metadata) -> bool {
     (one.dev(), one.ino()) == (other.dev(), other.ino())
 }
 
-/// Returns the path of the journal of a file, of which there need not be one yet.
-pub(super) fn journal_path(path: &Path) -> io::Result<PathBuf> {
-    check_memory()?;
-    Ok(with_journal(&resolved(path)?))
-}
-
 /// Returns the path of the journal of the file at a path that has no links in it.
 fn with_journal(path: &Path) -> PathBuf {
     let mut name = OsString::from(path);
@@ -655,14 +654,6 @@ impl<J: RafIo> JournalChoice for J {
     fn of(self, _io: &impl RafIo) -> J {
         self
     }
-}
-
-/// Returns all the bytes.
-pub(super) fn read_all(io: &mut impl RafIo) -> io::Result<Vec<u8>> {
-    let size = usize::try_from(io.get_size()?).map_err(|_| io::ErrorKind::OutOfMemory)?;
-    let mut bytes = zeros(size)?;
-    io.read_at(&mut bytes, 0)?;
-    Ok(bytes)
 }
 
 #[cfg(test)]

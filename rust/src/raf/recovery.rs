@@ -1,6 +1,6 @@
 //! Opening a file and its journal: completing a commit that was interrupted.
 
-use super::io::{RafIo, read_all};
+use super::io::RafIo;
 use super::journal::{BEGINNING_BYTES, NONCE_BYTES, buffer};
 use super::journal::{checked_writes, empty, journaled_writes, write_and_sync};
 use super::layout::{HEADER_BLOCK_BYTES, Layout, PageHeader, open_header};
@@ -61,7 +61,9 @@ impl FileStart {
                     .map_or(Error::Header, |_| Error::Journal));
             }
         }
-        let content = read_all(journal)?;
+        let size = usize::try_from(journal.get_size()?);
+        let mut content = zeros(size.map_err(|_| io::Error::from(io::ErrorKind::OutOfMemory))?)?;
+        journal.read_at(&mut content, 0)?;
         // Another file may have taken its place while it was read.
         if journal.get_size()? != content.len() as u64 {
             return Err(Error::Journal);

@@ -30,7 +30,6 @@ pub fn read<I: RafIo, R: RafRng, J: RafIo>(file: &mut Raf<Aegis256, I, R, J>) ->
     count.map(|count| text[..count].to_vec())
 }
 
-/// Returns the contents.
 pub fn text_of<I: RafIo, R: RafRng, J: RafIo>(file: &mut Raf<Aegis256, I, R, J>) -> Vec<u8> {
     read(file).unwrap()
 }
@@ -45,9 +44,7 @@ pub fn front_of(file: &[u8]) -> [u8; 512] {
 
 /// Returns what the journals of another file begin with, whose pages have 256 bytes.
 pub fn front_of_another() -> [u8; 512] {
-    let mut file = [0x6d; 33];
-    file[4..9].copy_from_slice(b"\x21\0\x01\0\0");
-    front_of(&file)
+    front_of(b"AGP1\x21\0\x01\0\0 the id of another file ")
 }
 
 // ---- Sources of random bytes
@@ -108,6 +105,7 @@ pub enum Part {
 
 /// What the disks of a file and of its journal have in common: their calls, in order, how many of them still succeed, and how many
 /// reads and syncs, how often one was locked, and how many sources of random bytes were made. One sync fails, and then no other.
+#[derive(Default)]
 pub struct Log {
     pub calls: Vec<(Part, Call)>,
     pub left: usize,
@@ -115,8 +113,8 @@ pub struct Log {
     pub syncs_left: usize,
     pub locks: usize,
     pub seed: u64,
-    /// Whether calls are kept.
-    pub is_on: bool,
+    /// Whether no calls are kept.
+    pub is_off: bool,
 }
 
 /// A disk in memory, whose bytes outlive the file over it.
@@ -133,7 +131,7 @@ impl Disk {
     /// Logs a call. Returns an error if it fails.
     fn log(&self, call: impl FnOnce() -> Call) -> io::Result<()> {
         let mut log = self.log.borrow_mut();
-        if log.is_on {
+        if !log.is_off {
             log.calls.push((self.part, call()));
         }
         log.left = log.left.checked_sub(1).ok_or(io::ErrorKind::Other)?;
@@ -209,13 +207,10 @@ impl Disks {
 
     pub fn of((file, journal): Bytes) -> Self {
         let log = Rc::new(RefCell::new(Log {
-            calls: Vec::new(),
             left: usize::MAX,
             reads_left: usize::MAX,
             syncs_left: usize::MAX,
-            locks: 0,
-            seed: 5,
-            is_on: true,
+            ..Log::default()
         }));
         let disk = |bytes, part| Disk {
             bytes: Rc::new(RefCell::new(bytes)),
