@@ -89,17 +89,6 @@ impl<V: Variant, const TAG_BYTES: usize> Cipher<V, TAG_BYTES> {
     /// # Errors
     ///
     /// [`Error::InvalidTag`] if authentication fails.
-    ///
-    /// ```
-    /// use hunkravy::aegis256::{Aegis256, Error};
-    ///
-    /// let (key, nonce) = ([1; 32], [2; 32]);
-    /// let (ciphertext, tag) = Aegis256::<32>::new(&key, &nonce).encrypt(b"a message", b"header");
-    /// let message = Aegis256::<32>::new(&key, &nonce).decrypt(&ciphertext, &tag, b"header");
-    /// assert_eq!(message.as_deref(), Ok(&b"a message"[..]));
-    /// let message = Aegis256::<32>::new(&key, &nonce).decrypt(&ciphertext, &tag, b"another header");
-    /// assert_eq!(message, Err(Error::InvalidTag));
-    /// ```
     #[track_caller]
     pub fn decrypt(self, c: &[u8], tag: &Tag<TAG_BYTES>, ad: &[u8]) -> Result<Vec<u8>, Error> {
         let mut mc = c.to_vec();

@@ -32,27 +32,12 @@ pub struct Mac<V: Variant, const TAG_BYTES: usize> {
 impl<V: Variant, const TAG_BYTES: usize> Mac<V, TAG_BYTES> {
     /// Begins a MAC under a key, with a zeroed nonce. `TAG_BYTES` is 16 or 32: with another length the
     /// program does not compile.
-    ///
-    /// ```
-    /// use hunkravy::aegis256::Aegis256Mac;
-    ///
-    /// let mac = Aegis256Mac::<16>::new(&[1; 32]);
-    /// let with_nonce = Aegis256Mac::<16>::new_with_nonce(&[1; 32], &[0; 32]);
-    /// assert_eq!(mac.finalize(), with_nonce.finalize());
-    /// ```
     pub fn new(key: &V::Key) -> Self {
         Self::new_with_nonce(key, &V::Nonce::default())
     }
 
     /// Begins a MAC under a key and a nonce. `TAG_BYTES` is 16 or 32: with another length the program
     /// does not compile.
-    ///
-    /// ```
-    /// use hunkravy::aegis256x4::Aegis256X4Mac;
-    ///
-    /// let tag = Aegis256X4Mac::<16>::new_with_nonce(&[1; 32], &[2; 32]).finalize();
-    /// assert_ne!(tag, Aegis256X4Mac::new_with_nonce(&[1; 32], &[3; 32]).finalize());
-    /// ```
     pub fn new_with_nonce(key: &V::Key, nonce: &V::Nonce) -> Self {
         assert_tag_bytes::<TAG_BYTES>();
         let mut state = State::ENDED;
@@ -102,14 +87,6 @@ impl<V: Variant, const TAG_BYTES: usize> Mac<V, TAG_BYTES> {
     /// # Errors
     ///
     /// [`Error::InvalidTag`] if it is not.
-    ///
-    /// ```
-    /// use hunkravy::aegis256x2::{Aegis256X2Mac, Error};
-    ///
-    /// let mut mac = Aegis256X2Mac::<32>::new(&[1; 32]);
-    /// mac.update(b"the input");
-    /// assert_eq!(mac.verify(&[0; 32]), Err(Error::InvalidTag));
-    /// ```
     pub fn verify(self, expected: &Tag<TAG_BYTES>) -> Result<(), Error> {
         accepted(exports::mac_final_verify(&self.state, expected))
     }

@@ -18,17 +18,6 @@ use std::io::{self, Write};
 /// The buffer for one piece is overwritten when the writer is dropped.
 ///
 /// **After a fork only one of the two processes may go on with a writer**: both have its nonces.
-///
-/// ```
-/// use hunkravy::files::SealedWriter;
-/// use std::io::Write;
-///
-/// let mut writer = SealedWriter::new(Vec::new(), &[1; 32])?;
-/// writer.write_all(b"the contents")?;
-/// let file = writer.finish()?;
-/// assert_eq!(file.len(), 24 + 4 + (37 + 12) + 37);
-/// # Ok::<(), std::io::Error>(())
-/// ```
 #[must_use = "without `finish` the file does not open"]
 pub struct SealedWriter<W: Write> {
     inner: W,

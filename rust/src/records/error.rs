@@ -5,10 +5,6 @@ use core::fmt;
 
 /// The error of a [`Sealer`](super::Sealer) or an [`Opener`](super::Opener). The first six variants are faults of a stream. An
 /// opener returns the first fault, in the order of the bytes.
-///
-/// ```
-/// assert_eq!(hunkravy::records::Error::Damaged(3).to_string(), "record 3 is damaged, or the key, prefix or context is wrong");
-/// ```
 #[derive(Clone, Copy, Debug, PartialEq, Eq)]
 #[non_exhaustive]
 pub enum Error {

@@ -146,23 +146,6 @@ impl<'c> Opener<'c> {
     ///
     /// The first fault of the stream, or [`Error::StreamTooLong`]. [`Error::Truncated`] if `bytes` ends before the record
     /// does. [`Error::Trailing`] after the last record. [`Error::OutOfMemory`].
-    ///
-    /// ```
-    /// use hunkravy::records::{Error, Opener, Sealer};
-    ///
-    /// let (key, prefix) = ([1; 32], [2; 24]);
-    /// let mut stream = Vec::new();
-    /// let mut sealer = Sealer::new(&key, &prefix, b"context")?;
-    /// let header = sealer.header();
-    /// sealer.seal_last(b"a message", &mut stream)?;
-    ///
-    /// stream[7] ^= 1;
-    /// let mut opener = Opener::new(&key, &prefix, b"context", &header)?;
-    /// assert_eq!(opener.open_next(&stream), Err(Error::Damaged(0)));
-    /// stream[7] ^= 1;
-    /// assert_eq!(opener.open_next(&stream), Err(Error::Damaged(0)));
-    /// # Ok::<(), Error>(())
-    /// ```
     pub fn open_next<'b>(&mut self, bytes: &'b [u8]) -> Result<Opened<'b>, Error> {
         let length = self.first_len(bytes)?;
         let (record, rest) = bytes.split_at(length);

@@ -12,17 +12,6 @@ use alloc::vec::Vec;
 /// stream is truncated. After it the other functions return [`Error::Ended`].
 ///
 /// **After a fork only one of the two processes may go on with a sealer**: both have its nonces.
-///
-/// ```
-/// use hunkravy::records::{Error, Sealer};
-///
-/// let mut sealer = Sealer::new(&[1; 32], &[2; 24], b"context")?;
-/// let mut stream = sealer.header().to_vec();
-/// sealer.seal_next(b"first", &mut stream)?;
-/// sealer.seal_last(b"last", &mut stream)?;
-/// assert_eq!(stream.len(), 4 + (37 + 5) + (37 + 4));
-/// # Ok::<(), Error>(())
-/// ```
 #[must_use]
 pub struct Sealer<'c> {
     records: Records<'c>,

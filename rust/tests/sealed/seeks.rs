@@ -5,6 +5,7 @@ use crate::support::*;
 use hunkravy::files::SealedReader;
 use hunkravy::records::Error;
 use std::cell::Cell;
+use std::io::SeekFrom::{Current, End, Start};
 use std::io::{BufRead, Cursor, ErrorKind, Read, Result, Seek, SeekFrom};
 use std::panic::{AssertUnwindSafe, catch_unwind};
 
@@ -36,9 +37,9 @@ fn files(random: &mut Random) -> Vec<(Vec<u8>, Vec<u8>)> {
 fn seek_from(random: &mut Random, length: u64) -> SeekFrom {
     let place = random.below(length + 3);
     match random.below(3) {
-        0 => SeekFrom::Start(place),
-        1 => SeekFrom::End(place as i64 - length as i64),
-        _ => SeekFrom::Current(place as i64 - random.below(length + 3) as i64),
+        0 => Start(place),
+        1 => End(place as i64 - length as i64),
+        _ => Current(place as i64 - random.below(length + 3) as i64),
     }
 }
 
@@ -92,30 +93,20 @@ fn step(random: &mut Random, reader: &mut (impl BufRead + Seek), expected: &mut 
 fn places_out_of_bounds() {
     let file = sealed_in_pieces(&key(), &PREFIX, &[1; 100]);
     let mut reader = SealedReader::new(Cursor::new(file), &key());
-    reader.seek(SeekFrom::Start(50)).unwrap();
-    for to in [
-        SeekFrom::Current(-51),
-        SeekFrom::End(-101),
-        SeekFrom::Current(i64::MIN),
-        SeekFrom::End(i64::MIN),
-    ] {
+    reader.seek(Start(50)).unwrap();
+    for to in [Current(-51), End(-101), Current(i64::MIN), End(i64::MIN)] {
         let error = reader.seek(to).unwrap_err();
         assert_eq!(error.kind(), ErrorKind::InvalidInput);
         assert_eq!(reader.stream_position().unwrap(), 50);
         assert_eq!(reader.fill_buf().unwrap(), [1; 50]);
     }
-    for to in [
-        SeekFrom::Start(101),
-        SeekFrom::Start(u64::MAX),
-        SeekFrom::End(0),
-        SeekFrom::End(i64::MAX),
-    ] {
+    for to in [Start(101), Start(u64::MAX), End(0), End(i64::MAX)] {
         reader.seek(to).unwrap();
         assert_eq!(reader.fill_buf().unwrap(), []);
         assert_eq!(reader.read(&mut [0]).unwrap(), 0);
     }
-    reader.seek(SeekFrom::Start(u64::MAX)).unwrap();
-    let error = reader.seek(SeekFrom::Current(1)).unwrap_err();
+    reader.seek(Start(u64::MAX)).unwrap();
+    let error = reader.seek(Current(1)).unwrap_err();
     assert_eq!(error.kind(), ErrorKind::InvalidInput);
     reader.rewind().unwrap();
     assert_eq!(reader.fill_buf().unwrap(), [1; 100]);
@@ -128,13 +119,12 @@ fn before_the_start() {
     file[28 + 42 + 10] ^= 1;
     for place in [0, 3, 5, 12, 14, 17, 100] {
         let mut reader = SealedReader::new(Cursor::new(&file), &key());
-        if place == 5 {
-            reader.read_exact(&mut [0; 5]).unwrap();
-        } else {
-            reader.seek(SeekFrom::Start(place)).unwrap();
+        match place {
+            5 => reader.read_exact(&mut [0; 5]).unwrap(),
+            _ => assert_eq!(reader.seek(Start(place)).unwrap(), place),
         }
         for _ in 0..2 {
-            let error = reader.seek(SeekFrom::End(-18)).unwrap_err();
+            let error = reader.seek(End(-18)).unwrap_err();
             assert_eq!(error.kind(), ErrorKind::InvalidInput);
             assert_eq!(reader.stream_position().unwrap(), place);
         }
@@ -160,13 +150,13 @@ fn panics_of_seeks() {
             Ok(usize::MAX)
         };
         let mut reader = SealedReader::new(Before(Cursor::new(&file), panics), &key());
-        let sought = catch_unwind(AssertUnwindSafe(|| reader.seek(SeekFrom::End(-7))));
+        let sought = catch_unwind(AssertUnwindSafe(|| reader.seek(End(-7))));
         if let Ok(sought) = sought {
             assert_eq!(sought.unwrap(), 9);
             break;
         }
         assert_eq!(reader.stream_position().unwrap(), 0);
-        assert_eq!(reader.seek(SeekFrom::Start(9)).unwrap(), 9);
+        assert_eq!(reader.seek(Start(9)).unwrap(), 9);
         assert_eq!(reader.fill_buf().unwrap(), b"nd");
     }
     assert!(calls.get() > 20, "{calls:?}");
@@ -180,11 +170,7 @@ fn errors_of_seeks() {
     let pieces: Vec<&[u8]> = contents.chunks(50_000).collect();
     let irregular = sealed(&key(), &PREFIX, &pieces);
     for file in [regular, irregular] {
-        for to in [
-            SeekFrom::Start(160_000),
-            SeekFrom::End(-10),
-            SeekFrom::End(5),
-        ] {
+        for to in [Start(160_000), End(-10), End(5)] {
             let calls = (0..).find(|calls| !seek_fails(&file, &contents, to, *calls));
             assert!(calls > Some(3), "{to:?} {calls:?}");
         }
@@ -207,9 +193,9 @@ fn seek_fails(file: &[u8], contents: &[u8], to: SeekFrom, calls: usize) -> bool 
         if reader.fill_buf().is_ok() {
             // Nothing was moved yet.
             assert_eq!(reader.stream_position().unwrap(), 15);
-            reader.seek(SeekFrom::Current(-5)).unwrap();
+            reader.seek(Current(-5)).unwrap();
         }
-        reader.seek(SeekFrom::Current(2)).unwrap();
+        reader.seek(Current(2)).unwrap();
         assert_eq!(reader.fill_buf().unwrap()[..4], contents[12..16]);
         reader.seek(to).unwrap();
     }
@@ -255,7 +241,7 @@ fn flags_that_change() {
         }
     };
     let mut reader = SealedReader::new(After(Cursor::new(file), flip), &key());
-    let error = reader.seek(SeekFrom::End(0)).unwrap_err();
+    let error = reader.seek(End(0)).unwrap_err();
     assert_eq!(error.kind(), ErrorKind::InvalidData);
     assert!(reader.read(&mut [0]).is_err());
 }
@@ -268,15 +254,11 @@ fn only_what_is_needed_is_read() {
     let bytes = [&[0x41; 9], &file[..]].concat();
     let (whole, end) = (40 * 65_536, 40 * 65_536 + 9);
     for (to, place, most) in [
-        (
-            SeekFrom::Start(30 * 65_536 + 5),
-            30 * 65_536 + 5,
-            28 + WHOLE_BYTES,
-        ),
-        (SeekFrom::Start(whole), 40 * 65_536, 28 + 46),
-        (SeekFrom::Start(end), contents.len(), 28 + 37),
-        (SeekFrom::End(0), contents.len(), 28 + 37),
-        (SeekFrom::End(-9), 40 * 65_536, 28 + 37 + 46),
+        (Start(30 * 65_536 + 5), 30 * 65_536 + 5, 28 + WHOLE_BYTES),
+        (Start(whole), 40 * 65_536, 28 + 46),
+        (Start(end), contents.len(), 28 + 37),
+        (End(0), contents.len(), 28 + 37),
+        (End(-9), 40 * 65_536, 28 + 37 + 46),
     ] {
         let count = Cell::new(0);
         let mut inner = Cursor::new(&bytes);
@@ -292,8 +274,8 @@ fn only_what_is_needed_is_read() {
         // What is here is not read again.
         let before = count.get();
         let back = read.len().min(3) as i64;
-        reader.seek(SeekFrom::Current(back)).unwrap();
-        reader.seek(SeekFrom::Start(place as u64)).unwrap();
+        reader.seek(Current(back)).unwrap();
+        reader.seek(Start(place as u64)).unwrap();
         assert_eq!(count.get(), before);
     }
 }
@@ -304,7 +286,7 @@ fn zeros() {
     let mut file = sealed(&key(), &PREFIX, &[b"first", b""]);
     file.truncate(28 + 42);
     file.resize(1 << 20, 0);
-    for to in [SeekFrom::End(0), SeekFrom::Start(5)] {
+    for to in [End(0), Start(5)] {
         let mut count = 0;
         let counted = After(Cursor::new(&file), |_, bytes: &mut [u8]| {
             count += bytes.len()
@@ -324,10 +306,10 @@ fn past_a_damaged_record() {
     let mut file = sealed_in_pieces(&key(), &PREFIX, &contents);
     file[28 + WHOLE_BYTES + 100] ^= 1;
     let mut reader = SealedReader::new(Cursor::new(file), &key());
-    reader.seek(SeekFrom::Start(2 * 65_536)).unwrap();
+    reader.seek(Start(2 * 65_536)).unwrap();
     let mut rest = Vec::new();
     reader.read_to_end(&mut rest).unwrap();
     assert!(rest == contents[2 * 65_536..]);
-    assert!(reader.seek(SeekFrom::Start(65_536)).is_err());
-    assert!(reader.seek(SeekFrom::Start(0)).is_err());
+    assert!(reader.seek(Start(65_536)).is_err());
+    assert!(reader.seek(Start(0)).is_err());
 }
