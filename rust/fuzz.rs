@@ -2,14 +2,17 @@
 //!
 //! `make fuzz` builds and runs it. The first byte of an input selects what is read; the others are changes of it.
 
-use hunkravy::files::{SealedReader, SealedWriter, read_key};
-use hunkravy::raf::{Aegis256, Raf, RafBuilder, RafIo, probe};
-use std::cell::RefCell;
-use std::io::{Cursor, ErrorKind, Read, Result, Seek, SeekFrom, Write};
-use std::rc::Rc;
-use std::sync::LazyLock;
+#[path = "tests/sealed/random.rs"]
+mod random;
+#[allow(dead_code)]
+#[path = "tests/raf/support.rs"]
+mod support;
 
-const KEY: [u8; 32] = [7; 32];
+use hunkravy::files::{SealedReader, SealedWriter, read_key};
+use hunkravy::raf::probe;
+use std::io::{Cursor, Read, Seek, SeekFrom, Write};
+use std::sync::LazyLock;
+use support::{Bytes, Disks, JOURNAL_CALLS, KEY, cut_short, read};
 
 #[unsafe(no_mangle)]
 extern "C" fn LLVMFuzzerTestOneInput(data: *const u8, size: usize) -> i32 {
@@ -70,94 +73,36 @@ fn sealed_file(input: &[u8]) {
     }
 }
 
-/// Bytes that outlive the file over them, and the longest that they were.
-#[derive(Clone, Default)]
-struct Memory(Rc<RefCell<(Vec<u8>, Vec<u8>)>>);
-
-impl Memory {
-    fn of(bytes: Vec<u8>) -> Self {
-        Memory(Rc::new(RefCell::new((bytes, Vec::new()))))
-    }
-}
-
-impl RafIo for Memory {
-    fn read_at(&mut self, buf: &mut [u8], offset: u64) -> Result<()> {
-        let (bytes, _) = &*self.0.borrow();
-        let rest = bytes.get(offset as usize..).unwrap_or(&[]);
-        buf.copy_from_slice(rest.get(..buf.len()).ok_or(ErrorKind::UnexpectedEof)?);
-        Ok(())
-    }
-
-    fn write_at(&mut self, data: &[u8], offset: u64) -> Result<()> {
-        let (bytes, longest) = &mut *self.0.borrow_mut();
-        let end = offset as usize + data.len();
-        bytes.resize(bytes.len().max(end), 0);
-        bytes[offset as usize..end].copy_from_slice(data);
-        if bytes.len() >= longest.len() {
-            longest.clone_from(bytes);
-        }
-        Ok(())
-    }
-
-    fn get_size(&mut self) -> Result<u64> {
-        Ok(self.0.borrow().0.len() as u64)
-    }
-
-    fn set_size(&mut self, size: u64) -> Result<()> {
-        if size > 1 << 24 {
-            return Err(ErrorKind::StorageFull.into());
-        }
-        self.0.borrow_mut().0.resize(size as usize, 0);
-        Ok(())
-    }
-}
-
 const OLD: &[u8] = &[b'o'; 900];
 const NEW: &[u8] = &[b'n'; 700];
 
 /// The bytes of a file before its second commit, and those of the journal of that commit.
-static FILE: LazyLock<(Vec<u8>, Vec<u8>)> = LazyLock::new(|| {
-    let (file, journal) = (Memory::default(), Memory::default());
-    let builder = RafBuilder::<Aegis256>::new().journal(journal.clone());
-    let mut raf = builder.chunk_size(256).create(file.clone(), &KEY).unwrap();
-    raf.write(OLD, 0).unwrap();
-    raf.commit().unwrap();
-    let before = file.0.borrow().0.clone();
-    journal.0.borrow_mut().1.clear();
-    raf.write(NEW, 100).unwrap();
-    raf.commit().unwrap();
-    (before, journal.0.borrow().1.clone())
+static FILE: LazyLock<Bytes> = LazyLock::new(|| {
+    let before = Disks::with(OLD).bytes();
+    cut_short(&before, NEW, 100, JOURNAL_CALLS).bytes()
 });
 
 /// A file opens to its contents before or after a commit, or parts of them are rejected.
 fn random_access_file(of_file: &[u8], of_journal: &[u8]) {
-    let (file, journal) = (changed(&FILE.0, of_file), changed(&FILE.1, of_journal));
-    let _ = probe(&mut Memory::of(file.clone()));
-    let builder = RafBuilder::<Aegis256>::new().journal(Memory::of(journal));
-    let Ok(mut raf) = builder.open(Memory::of(file), &KEY) else {
+    let disks = Disks::of((changed(&FILE.0, of_file), changed(&FILE.1, of_journal)));
+    disks.log().is_off = true;
+    let _ = probe(&mut disks.file.clone());
+    let Ok(mut file) = disks.open() else {
         return;
     };
     let new = [&OLD[..100], NEW, &OLD[800..]].concat();
-    assert!(raf.size() == OLD.len() as u64);
-    let mut page = [0; 90];
-    let pages = (0..10).filter(|number| read(&mut raf, &mut page, number * 90));
-    let count = pages.count();
-    let _ = raf.commitment();
-    let mut found = vec![0; OLD.len()];
-    if count == 10 && raf.read(&mut found, 0).is_ok() {
+    assert!(file.size() == OLD.len() as u64);
+    let mut part = [0; 90];
+    let mut is_read = |number: &u64| {
+        let is_read = file.read(&mut part, number * 90).is_ok();
+        assert!(!is_read || part.iter().all(|byte| b"on".contains(byte)));
+        is_read
+    };
+    let count = (0..10).filter(&mut is_read).count();
+    let _ = file.commitment();
+    if let (10, Ok(found)) = (count, read(&mut file)) {
         assert!(found == OLD || found == new);
     }
-}
-
-/// Reads a part, and returns whether it could be.
-fn read<J: RafIo>(
-    raf: &mut Raf<Aegis256, Memory, impl hunkravy::raf::RafRng, J>,
-    part: &mut [u8],
-    at: u64,
-) -> bool {
-    let is_read = raf.read(part, at).is_ok();
-    assert!(!is_read || part.iter().all(|byte| b"on".contains(byte)));
-    is_read
 }
 
 /// A key file has 64 digits and at most two bytes of white space.

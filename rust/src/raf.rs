@@ -366,9 +366,8 @@ impl<A: Algorithm, I: RafIo, R: RafRng, J: RafIo> Raf<A, I, R, J> {
         // Not before: sealing may take long, and the file may be moved meanwhile.
         self.io.check_path()?;
         let new = self.layout.page_place(self.layout.page_count(self.stored));
-        let end = self
-            .layout
-            .page_place(numbers.last().map_or(0, |last| last + 1));
+        let last = numbers.last().map_or(0, |last| last + 1);
+        let end = self.layout.page_place(last);
         if end > new {
             // Nobody could make the writes of a journal without room, and so the file would not open.
             self.io.reserve(new, end)?;

@@ -29,10 +29,8 @@ fn targets() {
         "",
     ] {
         let message = build::check_target(target).unwrap_err();
-        assert!(
-            message.contains("glibc or musl") && message.contains(target),
-            "{message}"
-        );
+        let expected = format!("with glibc or musl, not for {target}");
+        assert!(message.contains(&expected), "{message}");
     }
 }
 
@@ -79,21 +77,6 @@ impl Script {
 /// The numbers that ELF has for the processors.
 const X86_64: u8 = 62;
 const AARCH64: u8 = 183;
-
-/// A build for another target fails, and says why.
-#[test]
-fn a_build_for_another_target() {
-    let script = Script::new("another-target");
-    for (target, is_known) in [
-        ("x86_64-apple-darwin", false),
-        ("x86_64-unknown-linux-gnu", true),
-    ] {
-        let printed = script.run(&[("TARGET", Path::new(target))]);
-        let has = |start: &str| printed.iter().any(|line| line.starts_with(start));
-        assert_eq!(has("cargo::error="), !is_known, "{printed:?}");
-        assert_eq!(has("cargo::rustc-link-lib"), is_known, "{printed:?}");
-    }
-}
 
 /// The library is that of the variable, then that of the package, then that of pkg-config; and whatever would change that is
 /// looked at again.
@@ -143,26 +126,36 @@ fn the_library_that_is_found() {
     finds(&[("HUNKRAVY_LIB_DIR", &*empty), by_program], None);
 }
 
-/// A library for another processor is not linked, whoever gives it.
+/// A library for another processor is not linked, whoever gives it. A build for another target fails. Both say why.
 #[test]
 fn the_library_of_another_processor() {
     let script = Script::new("another-processor");
-    for (target, machine, is_linked) in [
-        ("x86_64-unknown-linux-gnu", X86_64, true),
-        ("x86_64-unknown-linux-musl", AARCH64, false),
-        ("x86_64-unknown-linux-gnu", 0, false),
-        ("aarch64-unknown-linux-gnu", X86_64, false),
-        ("aarch64-unknown-linux-musl", AARCH64, true),
+    for (target, machine, error) in [
+        ("x86_64-unknown-linux-gnu", X86_64, None),
+        (
+            "x86_64-unknown-linux-musl",
+            AARCH64,
+            Some("is not for x86_64"),
+        ),
+        ("x86_64-unknown-linux-gnu", 0, Some("is not for x86_64")),
+        (
+            "aarch64-unknown-linux-gnu",
+            X86_64,
+            Some("is not for aarch64"),
+        ),
+        ("aarch64-unknown-linux-musl", AARCH64, None),
+        ("x86_64-apple-darwin", X86_64, Some("cargo::error=")),
     ] {
         for variable in ["HUNKRAVY_LIB_DIR", "NONE"] {
             let named = script.with_archive("named", machine);
             script.with_archive("lib", machine);
             let printed = script.run(&[("TARGET", Path::new(target)), (variable, &named)]);
             let has = |text: &str| printed.iter().any(|line| line.contains(text));
-            assert_eq!(has("link-search"), is_linked, "{printed:?}");
-            let (processor, _) = target.split_once('-').unwrap();
-            let refused = format!("is not for {processor}");
-            assert_eq!(has(&refused), !is_linked, "{printed:?}");
+            assert_eq!(has("link-search"), error.is_none(), "{printed:?}");
+            assert!(error.is_none_or(has), "{printed:?}");
+            let is_error = error == Some("cargo::error=");
+            assert_eq!(has("cargo::error="), is_error, "{printed:?}");
+            assert_eq!(has("cargo::rustc-link-lib"), !is_error, "{printed:?}");
         }
     }
 }
@@ -235,10 +228,8 @@ fn manifests_of_the_crate_aegis() {
         let dependency = format!("aegis = {{ package = \"hunkravy\", PATH{only}[\"{feature}\"] }}");
         let (is_built, printed) = cargo("check", program, "of-aegis", &dependency);
         assert_eq!(is_built, is_right, "{dependency} {printed}");
-        assert!(
-            !is_built || !printed.contains("warning: unused"),
-            "{printed}"
-        );
+        let is_warned = printed.contains("warning: unused");
+        assert!(!is_built || !is_warned, "{printed}");
         assert!(is_built || printed.contains("error[E"), "{printed}");
     }
 }

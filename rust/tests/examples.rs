@@ -6,13 +6,8 @@ use std::process::{Command, Output};
 
 fn run(example: &str, arguments: &[&str]) -> Output {
     let mut cargo = Command::new(env!("CARGO"));
-    cargo.args(["run", "--quiet", "--offline", "--manifest-path"]);
-    cargo.args([
-        concat!(env!("CARGO_MANIFEST_DIR"), "/Cargo.toml"),
-        "--example",
-        example,
-        "--",
-    ]);
+    cargo.current_dir(env!("CARGO_MANIFEST_DIR"));
+    cargo.args(["run", "--quiet", "--offline", "--example", example, "--"]);
     cargo.args(arguments).output().unwrap()
 }
 
@@ -24,20 +19,10 @@ fn printed(example: &str, arguments: &[&str]) -> String {
 }
 
 #[test]
-fn first() {
+fn messages() {
     assert_eq!(printed("first", &[]), "");
-}
-
-#[test]
-fn records() {
-    assert_eq!(
-        printed("records", &[]),
-        "the first message\nthe last message\n"
-    );
-}
-
-#[test]
-fn seal() {
+    let expected = "the first message\nthe last message\n";
+    assert_eq!(printed("records", &[]), expected);
     let printed = printed("seal", &[]);
     assert_eq!(printed.lines().count(), 3);
     assert!(printed.ends_with("opened, and rejected with another header\n"));

@@ -50,22 +50,6 @@ fn an_append_without_room() {
     assert!(seen[0] > 100 && seen[1] > 50, "{seen:?}");
 }
 
-/// A commit that finds no room for its pages changes nothing, and can be made when there is some.
-#[test]
-fn room_is_found_before_there_is_a_journal() {
-    let room = Rc::new(Cell::new(100));
-    let disks = Disks::with(b"");
-    let opened = disks.builder().open(small(&disks.file, &room), &KEY);
-    let mut file = opened.unwrap();
-    file.write(&[1; 5000], 0).unwrap();
-    let calls = disks.calls();
-    assert_eq!(outcome(file.commit()), "StorageFull");
-    assert_eq!((disks.calls(), file.size()), (calls, 5000));
-    room.set(100_000);
-    file.commit().unwrap();
-    assert_eq!(disks.text(), [1; 5000]);
-}
-
 /// The calls that the system makes room with: a file of the system has room on its disk for what is reserved.
 #[test]
 fn room_in_a_file() {

@@ -406,19 +406,17 @@ fn tear(bytes: &mut Vec<u8>, offset: u64, data: &[u8], random: &mut Random) {
             0 => (),
             1 => put(bytes, place, part),
             2 => put(bytes, place, &random.bytes(part.len())),
-            _ => put(bytes, place, &bytes_of_another(place, part.len(), random)),
+            // What is after its front is garbage.
+            _ => {
+                let front = front_of_another();
+                let rest = front.get(place as usize..).unwrap_or(&[]);
+                let garbage = random.bytes(part.len());
+                let left = rest.iter().chain(garbage.iter().skip(rest.len()));
+                let left: Vec<u8> = left.take(part.len()).copied().collect();
+                put(bytes, place, &left);
+            }
         }
     }
-}
-
-/// Returns the bytes of another file's journal at a place, of which those after its front are garbage.
-fn bytes_of_another(place: u64, count: usize, random: &mut Random) -> Vec<u8> {
-    let mut bytes = random.bytes(count);
-    let front = front_of_another();
-    let rest = front.get(place as usize..).unwrap_or(&[]);
-    let common = rest.len().min(count);
-    bytes[..common].copy_from_slice(&rest[..common]);
-    bytes
 }
 
 /// Returns the calls of one of the two.
