@@ -420,12 +420,10 @@ impl<A: Algorithm, I: RafIo, R: RafRng, J: RafIo> Raf<A, I, R, J> {
 
     /// Returns an error in another process than that which opened the file, or if the file is broken.
     fn check_is_usable(&self) -> Result<()> {
-        if !self.owner.seems_this() {
-            Err(Error::Locked)
-        } else if self.is_broken {
-            Err(Error::Broken)
-        } else {
-            Ok(())
+        match self.is_broken {
+            _ if !self.owner.seems_this() => Err(Error::Locked),
+            true => Err(Error::Broken),
+            false => Ok(()),
         }
     }
 

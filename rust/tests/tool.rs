@@ -64,15 +64,13 @@ impl Drop for Tool {
     }
 }
 
-const LENGTHS: [usize; 6] = [0, 1, PIECE_BYTES - 1, PIECE_BYTES, PIECE_BYTES + 1, 300_000];
-
 /// Each opens what the other has sealed, byte for byte the same file.
 #[test]
 fn files_of_each_other() {
     let Some(tool) = tool("files") else { return };
     tool.done(&["keygen", "key"]);
     let key = read_key(tool.path("key")).unwrap();
-    for length in LENGTHS {
+    for length in [0, 1, PIECE_BYTES - 1, PIECE_BYTES, PIECE_BYTES + 1, 300_000] {
         let contents = Random(6).bytes(length);
         fs::write(tool.path("in"), &contents).unwrap();
         tool.done(&["seal", "-q", "--force", "-k", "key", "in", "sealed"]);

@@ -50,15 +50,11 @@ fn key_of(bytes: &[u8]) -> Option<Key> {
     if digits.len() != 2 * key.len() {
         return None;
     }
+    let digit = |byte: u8| (byte as char).to_digit(16).map(|value| value as u8);
     for (byte, pair) in key.iter_mut().zip(digits.as_bytes().chunks_exact(2)) {
         *byte = (digit(pair[0])? << 4) | digit(pair[1])?;
     }
     Some(key)
-}
-
-/// Returns the value of a hexadecimal digit.
-fn digit(byte: u8) -> Option<u8> {
-    (byte as char).to_digit(16).map(|value| value as u8)
 }
 
 #[cfg(test)]

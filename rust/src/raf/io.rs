@@ -201,18 +201,15 @@ impl FileIo {
 
     /// Returns [`Error::Moved`] unless the file is the one at its path, and has no other name.
     fn check_name(&self) -> Result<()> {
-        match &self.path {
-            Some(path) if !is_only_at(&self.file, path)? => Err(Error::Moved),
-            _ => Ok(()),
+        let Some(path) = &self.path else {
+            return Ok(());
+        };
+        let (own, found) = (self.file.metadata()?, found_at(path)?);
+        match found {
+            Some(found) if own.nlink() == 1 && is_same(&found, &own) => Ok(()),
+            _ => Err(Error::Moved),
         }
     }
-}
-
-/// Returns whether a file is at a path, and has no other name.
-fn is_only_at(file: &File, path: &Path) -> io::Result<bool> {
-    let own = file.metadata()?;
-    let found = found_at(path)?;
-    Ok(own.nlink() == 1 && found.is_some_and(|found| is_same(&found, &own)))
 }
 
 impl RafIo for FileIo {
@@ -290,7 +287,7 @@ impl Drop for FileIo {
             return;
         }
         if let (Some(path), true) = (&self.path, self.is_unfinished) {
-            if matches!(is_only_at(&self.file, path), Ok(true)) {
+            if self.check_name().is_ok() {
                 let _ = fs::remove_file(path);
             }
         }

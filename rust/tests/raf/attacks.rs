@@ -20,25 +20,21 @@ fn named_back(folder: &Folder) -> io::Result<()> {
     fs::rename(folder.path("other"), folder.file())
 }
 
-fn replaced(folder: &Folder) -> io::Result<()> {
-    renamed(folder)?;
-    fs::copy(folder.path("other"), folder.file()).map(drop)
-}
-
-fn linked(folder: &Folder) -> io::Result<()> {
-    renamed(folder)?;
-    symlink(folder.path("other"), folder.file())
-}
-
-/// What may be done to a file that is open, and how it is undone.
-const MOVES: [(&str, Done, Done); 4] = [
-    ("renamed", renamed, named_back),
-    ("replaced", replaced, named_back),
-    ("renamed, with a link in its place", linked, named_back),
+/// What may be done to a file that is open, and how it is undone: it is renamed, also with a copy or a link in its place, or given
+/// another name.
+const MOVES: [(Done, Done); 4] = [
+    (renamed, named_back),
     (
-        "given another name",
-        |folder| fs::hard_link(folder.file(), folder.path("other")),
-        |folder| fs::remove_file(folder.path("other")),
+        |at| renamed(at).and_then(|()| fs::copy(at.path("other"), at.file()).map(drop)),
+        named_back,
+    ),
+    (
+        |at| renamed(at).and_then(|()| symlink(at.path("other"), at.file())),
+        named_back,
+    ),
+    (
+        |at| fs::hard_link(at.file(), at.path("other")),
+        |at| fs::remove_file(at.path("other")),
     ),
 ];
 
@@ -46,7 +42,7 @@ const MOVES: [(&str, Done, Done); 4] = [
 /// anything is written, and keeps the changes. So it is if the file is moved while pages are sealed: there is no journal yet.
 #[test]
 fn a_file_that_is_moved() {
-    for (name, done, undone) in MOVES {
+    for (number, (done, undone)) in MOVES.into_iter().enumerate() {
         for draw in 0..3 {
             let folder = Folder::with(b"before");
             let rng = Source::new(draw as u64 + 1, |call, _| match call + 1 == draw {
@@ -60,8 +56,8 @@ fn a_file_that_is_moved() {
             if draw == 0 {
                 done(&folder).unwrap();
             }
-            assert_eq!(outcome(file.commit()), "Moved", "{name} {draw}");
-            assert_eq!(outcome(file.sync()), "Moved", "{name} {draw}");
+            assert_eq!(outcome(file.commit()), "Moved", "{number} {draw}");
+            assert_eq!(outcome(file.sync()), "Moved", "{number} {draw}");
             assert_eq!(fs::read(folder.path("other")).unwrap(), bytes);
             assert!(!folder.journal().exists() && text_of(&mut file) == b"after!");
             undone(&folder).unwrap();

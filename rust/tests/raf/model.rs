@@ -5,7 +5,7 @@ use hunkravy::raf::*;
 
 /// A file, its text now and at the last commit, and the disks.
 struct Model<A: Algorithm> {
-    file: Option<Raf<A, Disk, Random, Disk>>,
+    file: Raf<A, Disk, Random, Disk>,
     text: Vec<u8>,
     committed: Vec<u8>,
     disks: Disks,
@@ -17,44 +17,33 @@ struct Model<A: Algorithm> {
 
 impl<A: Algorithm> Model<A> {
     fn new(chunk_size: u32, limit: usize) -> Self {
-        let mut model = Model {
-            file: None,
+        let disks = Disks::new();
+        let builder = RafBuilder::with_rng(Random(7)).journal(disks.journal.clone());
+        let builder = builder.chunk_size(chunk_size).buffer_limit(limit);
+        let key = A::Key::default();
+        Model {
+            file: builder.create(disks.file.clone(), &key).unwrap(),
             text: Vec::new(),
             committed: Vec::new(),
-            disks: Disks::new(),
-            key: A::Key::default(),
+            disks,
+            key,
             random: Random(u64::from(chunk_size) * 7 + limit as u64 % 1000 + 1),
             limit,
             most: 9 * u64::from(chunk_size) + 17,
-        };
-        let builder = model.builder().chunk_size(chunk_size);
-        let created = builder.create(model.disks.file.clone(), &model.key);
-        model.file = Some(created.unwrap());
-        model
-    }
-
-    fn builder(&mut self) -> RafBuilder<A, Random, Disk> {
-        let builder = RafBuilder::with_rng(Random(self.random.next()));
-        builder
-            .buffer_limit(self.limit)
-            .journal(self.disks.journal.clone())
-    }
-
-    fn file(&mut self) -> &mut Raf<A, Disk, Random, Disk> {
-        self.file.as_mut().unwrap()
+        }
     }
 
     fn change(&mut self) {
         let offset = self.random.below(self.most);
         if self.random.below(5) == 0 {
-            self.file().truncate(offset).unwrap();
+            self.file.truncate(offset).unwrap();
             self.text.resize(offset as usize, 0);
             return;
         }
         let count = self.random.below(self.most - offset) as usize;
         let is_short = self.random.below(2) == 0;
         let data = self.random.bytes(if is_short { count % 40 } else { count });
-        assert_eq!(self.file().write(&data, offset).unwrap(), data.len());
+        assert_eq!(self.file.write(&data, offset).unwrap(), data.len());
         if !data.is_empty() || offset as usize > self.text.len() {
             put(&mut self.text, offset, &data);
         }
@@ -62,16 +51,19 @@ impl<A: Algorithm> Model<A> {
 
     fn reopen(&mut self) {
         // Its changes are forgotten, so that dropping it commits none.
-        self.file().discard();
-        let opened = self.builder().open(self.disks.file.clone(), &self.key);
-        self.file = Some(opened.unwrap());
+        self.file.discard();
+        let builder = RafBuilder::with_rng(Random(self.random.next()));
+        let builder = builder.buffer_limit(self.limit);
+        let builder = builder.journal(self.disks.journal.clone());
+        let opened = builder.open(self.disks.file.clone(), &self.key);
+        self.file = opened.unwrap();
     }
 
     fn step(&mut self) {
         match self.random.below(10) {
-            0 => self.file().discard(),
+            0 => self.file.discard(),
             1 => {
-                self.file().commit().unwrap();
+                self.file.commit().unwrap();
                 self.committed = self.text.clone();
             }
             2 => self.reopen(),
@@ -81,10 +73,10 @@ impl<A: Algorithm> Model<A> {
     }
 
     fn compare(&mut self) {
-        assert_eq!(self.file().size(), self.text.len() as u64);
+        assert_eq!(self.file.size(), self.text.len() as u64);
         let (offset, count) = (self.random.below(self.most), self.random.below(self.most));
         let mut buf = vec![1; count as usize];
-        let count = self.file().read(&mut buf, offset).unwrap();
+        let count = self.file.read(&mut buf, offset).unwrap();
         let rest = self.text.get(offset as usize..).unwrap_or(&[]);
         assert_eq!(buf[..count], rest[..rest.len().min(buf.len())]);
         assert!(buf[count..].iter().all(|byte| *byte == 1));
@@ -122,7 +114,7 @@ fn random_changes_that_are_committed() {
         model.change();
         model.compare();
         if turn % 20 == 0 {
-            model.file().commit().unwrap();
+            model.file.commit().unwrap();
             model.reopen();
             model.compare();
         }
