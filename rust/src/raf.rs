@@ -415,7 +415,10 @@ impl<A: Algorithm, I: RafIo, R: RafRng, J: RafIo> Raf<A, I, R, J> {
 
     /// Returns a cursor at the start of the contents, which is `Read`, `Write` and `Seek`.
     pub fn cursor(&mut self) -> RafCursor<'_, A, I, R, J> {
-        RafCursor::new(self)
+        RafCursor {
+            file: self,
+            offset: 0,
+        }
     }
 
     /// Returns an error in another process than that which opened the file, or if the file is broken.

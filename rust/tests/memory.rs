@@ -75,11 +75,6 @@ fn most_of(done: impl FnOnce()) -> usize {
     MOST.load(SeqCst) - before
 }
 
-/// How much memory so much text takes in pages, if each is kept with so many bytes more.
-fn in_pages(text: usize, more: usize) -> usize {
-    text.div_ceil(CHUNK_BYTES) * (CHUNK_BYTES + more)
-}
-
 /// Writes twelve times the limit in all, in single writes of a tenth of it.
 fn write(path: &Path) {
     let part = vec![MARK; LIMIT / 10];
@@ -225,7 +220,8 @@ fn memory_of_files_is_limited_and_wiped() {
     let path = std::env::temp_dir().join(format!("hunkravy-memory-{}", std::process::id()));
     let changes = LIMIT + LIMIT / 10 + 2 * CHUNK_BYTES;
     // Beside a page of the text: its place in a map or a list.
-    let most = in_pages(changes, 240) + LIMIT / 10 + READ_BYTES + GATHERED + 20_000;
+    let pages = changes.div_ceil(CHUNK_BYTES) * (CHUNK_BYTES + 240);
+    let most = pages + LIMIT / 10 + READ_BYTES + GATHERED + 20_000;
     let written = most_of(|| write(&path));
     assert!(written > LIMIT && written < most, "{written} of {most}");
     let read = most_of(|| read(&path));

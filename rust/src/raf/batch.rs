@@ -74,7 +74,8 @@ impl<'a, A: Algorithm, I: RafIo, R: RafRng, J: RafIo> Batch<'a, A, I, R, J> {
 
     /// Commits the changes, unless an outer batch will.
     fn complete(&mut self) -> Result<(), Error> {
-        if !self.is_of_file() {
+        // Another file may have been put into its place.
+        if self.file.batch != self.number {
             return Err(Error::Moved);
         }
         if self.savepoint.is_none() {
@@ -83,11 +84,6 @@ impl<'a, A: Algorithm, I: RafIo, R: RafRng, J: RafIo> Batch<'a, A, I, R, J> {
         }
         self.is_complete = true;
         Ok(())
-    }
-
-    /// Returns whether the file that was put into the batch is still in its place.
-    fn is_of_file(&self) -> bool {
-        self.file.batch == self.number
     }
 }
 
@@ -101,7 +97,7 @@ impl<A: Algorithm, I: RafIo, R: RafRng, J: RafIo> Drop for Batch<'_, A, I, R, J>
         if savepoint.is_none() {
             batches().1.retain(|open| *open != self.number);
         }
-        if self.is_of_file() && !self.is_complete {
+        if self.file.batch == self.number && !self.is_complete {
             self.file.go_back(savepoint);
         }
     }

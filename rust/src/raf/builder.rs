@@ -8,7 +8,6 @@ use super::recovery::recover;
 use super::rng::{DefaultRng, RafRng, checked_nonce};
 use super::system::Process;
 use super::{Algorithm, Error, Raf, Result, default_chunk_size};
-use crate::memory::zeros;
 use alloc::vec::Vec;
 use core::fmt;
 use core::marker::PhantomData;
@@ -134,7 +133,7 @@ impl<A: Algorithm, R: RafRng, J: JournalChoice> RafBuilder<A, R, J> {
         builder.journal.lock()?;
         let header = recover::<A>(&mut io, &mut builder.journal, key)?;
         let layout = Layout::of(key, &header);
-        let (pages, owner) = (room_for_reads(&layout)?, Process::this()?);
+        let (pages, owner) = (layout.room_for_reads()?, Process::this()?);
         Ok(builder.over(io, layout, pages, owner, &header))
     }
 
@@ -228,7 +227,7 @@ impl<A: Algorithm, R: RafRng, J: JournalChoice> RafBuilder<A, R, J> {
             ..PageHeader::default()
         };
         let layout = Layout::of(key, &header);
-        let (pages, owner) = (room_for_reads(&layout)?, Process::this()?);
+        let (pages, owner) = (layout.room_for_reads()?, Process::this()?);
         let header_block = layout.header(0, 0, &nonce);
         empty(&mut builder.journal)?;
         io.set_size(0)?;
@@ -267,11 +266,6 @@ impl<A: Algorithm, R: RafRng, J: RafIo> RafBuilder<A, R, J> {
             is_cut_short: false,
         }
     }
-}
-
-/// Takes the memory for the pages of one read.
-fn room_for_reads<A: Algorithm>(layout: &Layout<A>) -> io::Result<Vec<u8>> {
-    zeros(layout.pages_in_a_read() * layout.page_bytes())
 }
 
 /// Returns an error if a file that is to be created has a journal: [`Error::Locked`] if the file is open elsewhere. Its

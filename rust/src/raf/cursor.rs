@@ -7,14 +7,8 @@ use std::io::{self, Read, Seek, SeekFrom, Write};
 /// A position in the contents of a file, which each read and write advances. [`Raf::cursor`] returns one.
 #[must_use]
 pub struct RafCursor<'a, A: Algorithm, I: RafIo, R: RafRng, J: RafIo> {
-    file: &'a mut Raf<A, I, R, J>,
-    offset: u64,
-}
-
-impl<'a, A: Algorithm, I: RafIo, R: RafRng, J: RafIo> RafCursor<'a, A, I, R, J> {
-    pub(super) fn new(file: &'a mut Raf<A, I, R, J>) -> Self {
-        RafCursor { file, offset: 0 }
-    }
+    pub(super) file: &'a mut Raf<A, I, R, J>,
+    pub(super) offset: u64,
 }
 
 impl<A: Algorithm, I: RafIo, R: RafRng, J: RafIo> fmt::Debug for RafCursor<'_, A, I, R, J> {

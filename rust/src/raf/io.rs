@@ -682,13 +682,10 @@ pub mod tests {
         fs::set_permissions(path, Permissions::from_mode(mode)).unwrap();
     }
 
-    /// A device, which the system can neither sync nor cut: so each of these calls reaches the system.
-    fn device() -> File {
-        options().open("/dev/null").unwrap()
-    }
-
     #[test]
     fn what_cannot_be_synced_or_cut() {
+        // A device can be neither: so each of these calls reaches the system.
+        let device = || options().open("/dev/null").unwrap();
         let mut io = FileIo::new(device());
         assert!(io.sync().is_err() && io.set_size(0).is_err());
         // There is nothing at its path, so that no fault can remove anything.

@@ -3,7 +3,10 @@
 use super::Algorithm;
 use super::journal::{JournalSeal, NONCE_BYTES, START_BYTES};
 use crate::exports::{self, State};
+use crate::memory::zeros;
 use crate::wipe::Wiped;
+use alloc::vec::Vec;
+use std::io;
 
 /// How many bytes are read in one call, at most, unless a page has more.
 const READ_BYTES: usize = 64 * 1024;
@@ -53,9 +56,9 @@ impl<A: Algorithm> Layout<A> {
         A::KEY_BYTES + self.chunk_size as usize + TAG_BYTES
     }
 
-    /// How many pages are read in one call, at most.
-    pub fn pages_in_a_read(&self) -> usize {
-        (READ_BYTES / self.page_bytes()).max(1)
+    /// Takes the memory for the pages of one read.
+    pub fn room_for_reads(&self) -> io::Result<Vec<u8>> {
+        zeros((READ_BYTES / self.page_bytes()).max(1) * self.page_bytes())
     }
 
     /// Where a page begins.

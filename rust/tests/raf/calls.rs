@@ -153,10 +153,13 @@ fn calls(disks: &Disks) -> String {
 
 /// A creation locks the file and the journal, and writes the header once the journal is certain to be empty. An opening locks both
 /// too, and syncs the file, since what can be read may not be synced. It empties the journal even if it is empty: after a sync
-/// that failed its old bytes may be on the disk.
+/// that failed its old bytes may be on the disk. Whoever opens a file that has only been made does not lock it, so that whoever
+/// has made it can.
 #[test]
 fn the_calls_of_a_creation_and_an_opening() {
     let disks = Disks::new();
+    assert_eq!(outcome(disks.open()), "Header");
+    assert_eq!(disks.log().locks, 0);
     let mut file = disks.create();
     let expected = "Journal resize 0, Journal sync, File resize 0, File write 0, File sync";
     assert_eq!((calls(&disks).as_str(), disks.log().locks), (expected, 2));

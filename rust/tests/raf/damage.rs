@@ -20,15 +20,6 @@ fn cut(calls: usize) -> (Bytes, Vec<u8>) {
     (cut, [&text[..300], &[1; 500]].concat())
 }
 
-/// A whole journal of another file.
-fn another_journal() -> Vec<u8> {
-    let disks = Disks::new();
-    disks.log().seed = 100;
-    disks.create().write(&[2; 600], 0).unwrap();
-    let cut = cut_short(&disks.bytes(), &[1; 500], 300, JOURNAL_CALLS);
-    cut.bytes().1
-}
-
 fn with(bytes: &Bytes, change: impl FnOnce(&mut Bytes)) -> Bytes {
     let mut changed = bytes.clone();
     change(&mut changed);
@@ -146,7 +137,11 @@ fn another_key_or_algorithm() {
 #[test]
 fn the_journal_of_another_file() {
     let ((file, _), text) = file();
-    let other = another_journal();
+    let disks = Disks::new();
+    disks.log().seed = 100;
+    disks.create().write(&[2; 600], 0).unwrap();
+    let cut = cut_short(&disks.bytes(), &[1; 500], 300, JOURNAL_CALLS);
+    let (_, other) = cut.bytes();
     let begun = [513, 528, 560, other.len()].map(|size| other[..size].to_vec());
     let others = [
         vec![b'a'; 513],

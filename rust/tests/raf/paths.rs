@@ -272,13 +272,14 @@ fn files_that_are_none() {
     }
 }
 
-/// Closing commits, as dropping does, and returns the error.
+/// Closing commits, as dropping does, and returns the error. A file may go to another thread.
 #[test]
 fn closing() {
     let folder = Folder::new();
     let mut file = folder.create().unwrap();
     file.write(b"kept", 0).unwrap();
-    file.close().unwrap();
+    let thread = std::thread::spawn(move || file.close());
+    thread.join().unwrap().unwrap();
     assert_eq!(folder.text(), b"kept");
     let mut file = folder.open().unwrap();
     file.write(b"lost", 0).unwrap();
@@ -316,14 +317,6 @@ fn cursors() {
     assert_eq!(folder.text(), b"one two three");
 }
 
-/// Whoever opens a file that has only been made does not lock it, so that whoever has made it can.
-#[test]
-fn a_file_that_is_being_created() {
-    let disks = Disks::new();
-    assert_eq!(outcome(disks.open()), "Header");
-    assert_eq!(disks.log().locks, 0);
-}
-
 #[test]
 fn a_journal_beside_no_file() {
     let folder = Folder::new();
@@ -335,13 +328,4 @@ fn a_journal_beside_no_file() {
         file.commit().unwrap();
         assert!(folder.names().is_empty());
     }
-}
-
-#[test]
-fn files_go_to_other_threads() {
-    let folder = Folder::new();
-    let mut file = folder.create().unwrap();
-    let thread = std::thread::spawn(move || file.write(b"there", 0));
-    thread.join().unwrap().unwrap();
-    assert_eq!(folder.text(), b"there");
 }

@@ -19,14 +19,13 @@ fn files(random: &mut Random) -> Vec<(Vec<u8>, Vec<u8>)> {
     let regular = regular.map(|contents| (sealed_in_pieces(&key(), &PREFIX, &contents), contents));
     let mut files: Vec<_> = regular.collect();
     for _ in 0..40 {
-        let count = 1 + random.below(12) as usize;
-        let mut length = || [1, 40, 3000][random.below(3) as usize];
-        let mosts: Vec<u64> = (0..count).map(|_| length()).collect();
-        let message = |most: u64| {
+        let count = 1 + random.below(12);
+        let mut message = |_| {
+            let most = [1, 40, 3000][random.below(3) as usize];
             let length = random.below(most) as usize;
             random.bytes(length)
         };
-        let messages: Vec<Vec<u8>> = mosts.into_iter().map(message).collect();
+        let messages: Vec<Vec<u8>> = (0..count).map(&mut message).collect();
         let slices: Vec<&[u8]> = messages.iter().map(Vec::as_slice).collect();
         files.push((sealed(&key(), &PREFIX, &slices), messages.concat()));
     }
