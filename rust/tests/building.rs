@@ -63,6 +63,29 @@ impl Script {
         printed.lines().map(str::to_owned).collect()
     }
 
+    /// Checks that the folder is found with these variables, or none.
+    fn finds(&self, variables: &[(&str, &Path)], folder: Option<&Path>) {
+        let printed = self.run(variables);
+        let has = |line: &str| printed.iter().any(|text| text.starts_with(line));
+        for variable in [
+            "HUNKRAVY_LIB_DIR",
+            "PKG_CONFIG",
+            "PKG_CONFIG_PATH",
+            "PKG_CONFIG_LIBDIR",
+            "PKG_CONFIG_SYSROOT_DIR",
+        ] {
+            let line = format!("cargo::rerun-if-env-changed={variable}");
+            assert!(printed.contains(&line), "{printed:?}");
+        }
+        let found = printed.iter().filter(|line| line.contains("link-search"));
+        let shown = folder.map_or("lib".to_owned(), |folder| folder.display().to_string());
+        let expected = folder.map(|_| format!("cargo::rustc-link-search=native={shown}"));
+        assert!(found.eq(&expected), "{printed:?}");
+        let again = format!("cargo::rerun-if-changed={shown}/libhunkravy.a");
+        assert!(printed.contains(&again), "{printed:?}");
+        assert_eq!(has("cargo::warning="), folder.is_none(), "{printed:?}");
+    }
+
     /// A folder with an archive in it, for the processor that ELF has this number for.
     fn with_archive(&self, name: &str, machine: u8) -> PathBuf {
         let folder = self.package.join(name);
@@ -92,38 +115,16 @@ fn the_library_that_is_found() {
     fs::set_permissions(&pkg_config, Permissions::from_mode(0o755)).unwrap();
     let _ = fs::remove_dir_all(script.package.join("lib"));
     let empty = script.package.join("named/none");
-
-    let finds = |variables: &[(&str, &Path)], folder: Option<&Path>| {
-        let printed = script.run(variables);
-        let has = |line: &str| printed.iter().any(|text| text.starts_with(line));
-        for variable in [
-            "HUNKRAVY_LIB_DIR",
-            "PKG_CONFIG",
-            "PKG_CONFIG_PATH",
-            "PKG_CONFIG_LIBDIR",
-            "PKG_CONFIG_SYSROOT_DIR",
-        ] {
-            let line = format!("cargo::rerun-if-env-changed={variable}");
-            assert!(printed.contains(&line), "{printed:?}");
-        }
-        let found = printed.iter().filter(|line| line.contains("link-search"));
-        let shown = folder.map_or("lib".to_owned(), |folder| folder.display().to_string());
-        let expected = folder.map(|_| format!("cargo::rustc-link-search=native={shown}"));
-        assert!(found.eq(&expected), "{printed:?}");
-        let again = format!("cargo::rerun-if-changed={shown}/libhunkravy.a");
-        assert!(printed.contains(&again), "{printed:?}");
-        assert_eq!(has("cargo::warning="), folder.is_none(), "{printed:?}");
-    };
     let (by_name, by_program) = (("HUNKRAVY_LIB_DIR", &*named), ("PKG_CONFIG", &*pkg_config));
-    finds(&[], None);
-    finds(&[by_program], Some(&installed));
-    finds(&[by_name], Some(&named));
+    script.finds(&[], None);
+    script.finds(&[by_program], Some(&installed));
+    script.finds(&[by_name], Some(&named));
     // A name that is wrong is an error, and no other library is taken in its place.
-    finds(&[("HUNKRAVY_LIB_DIR", &*empty), by_program], None);
+    script.finds(&[("HUNKRAVY_LIB_DIR", &*empty), by_program], None);
     let own = script.with_archive("lib", X86_64);
-    finds(&[by_program], Some(&own));
-    finds(&[by_name, by_program], Some(&named));
-    finds(&[("HUNKRAVY_LIB_DIR", &*empty), by_program], None);
+    script.finds(&[by_program], Some(&own));
+    script.finds(&[by_name, by_program], Some(&named));
+    script.finds(&[("HUNKRAVY_LIB_DIR", &*empty), by_program], None);
 }
 
 /// A library for another processor is not linked, whoever gives it. A build for another target fails. Both say why.

@@ -142,23 +142,25 @@ fn a_large_file_that_is_no_journal() {
     assert_eq!(outcome(folder.open()), "Header");
 }
 
+/// What may lie at the journal's path and is no journal, and the error of a commit.
+const PUTS: [(Done, &str); 7] = [
+    (|at| symlink("file", at.journal()), "InvalidData"),
+    (|at| symlink("other", at.journal()), "InvalidData"),
+    (|at| symlink("none", at.journal()), "InvalidData"),
+    (|at| fs::create_dir(at.journal()), "InvalidData"),
+    (
+        |at| fs::hard_link(at.path("other"), at.journal()),
+        "InvalidData",
+    ),
+    (|at| fs::write(at.journal(), [b'a'; 513]), "Journal"),
+    // Then the file has two names.
+    (|at| fs::hard_link(at.file(), at.journal()), "Moved"),
+];
+
 /// What lies at the journal's path and is no journal is left alone, and so is the file. No commit is made, until it is gone.
 #[test]
 fn what_is_no_journal() {
-    let puts: [(Done, &str); 7] = [
-        (|at| symlink("file", at.journal()), "InvalidData"),
-        (|at| symlink("other", at.journal()), "InvalidData"),
-        (|at| symlink("none", at.journal()), "InvalidData"),
-        (|at| fs::create_dir(at.journal()), "InvalidData"),
-        (
-            |at| fs::hard_link(at.path("other"), at.journal()),
-            "InvalidData",
-        ),
-        (|at| fs::write(at.journal(), [b'a'; 513]), "Journal"),
-        // Then the file has two names.
-        (|at| fs::hard_link(at.file(), at.journal()), "Moved"),
-    ];
-    for (number, (put, error)) in puts.into_iter().enumerate() {
+    for (number, (put, error)) in PUTS.into_iter().enumerate() {
         let folder = Folder::with(b"before");
         fs::write(folder.path("other"), b"").unwrap();
         put(&folder).unwrap();

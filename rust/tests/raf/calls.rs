@@ -275,8 +275,9 @@ fn the_reserved_nonce() {
     // It is that of a header, or of the last page and the header.
     let builder = |reserved| {
         disks.builder().rng(Source::new(5, move |call, buf| {
-            let places = buf.iter_mut().rev().take(64);
-            places.for_each(|byte| *byte = if call == reserved { 255 } else { *byte });
+            if call == reserved {
+                buf.iter_mut().rev().take(64).for_each(|byte| *byte = 255);
+            }
             Ok(())
         }))
     };

@@ -108,12 +108,9 @@ fn each_call_of_a_creation() {
     let mut random = Random(80);
     for count in (0..=calls.len()).flat_map(|count| [count; 20]) {
         let left = crashed(&Bytes::default(), &calls[..count], &mut random);
-        let opened = Disks::of(left)
-            .open()
-            .map(|file| assert_eq!(file.size(), 0));
-        let is_created = opened.is_ok();
-        let opened = outcome(opened);
-        assert!(is_created || opened == "Header" && count < calls.len());
+        let opened = Disks::of(left).open();
+        let size = opened.as_ref().ok().map(File::size);
+        assert!(size == Some(0) || outcome(opened) == "Header" && count < calls.len());
     }
 }
 
