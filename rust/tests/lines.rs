@@ -56,12 +56,7 @@ struct Keys<'a> {
     ad: Vec<u8>,
 }
 
-impl<'a> Keys<'a> {
-    fn new(key: &'a str, nonce: &'a str, ad: &str) -> Self {
-        let ad = bytes(ad);
-        Keys { key, nonce, ad }
-    }
-
+impl Keys<'_> {
     fn cipher<V: Variant, const TAG_BYTES: usize>(&self) -> Cipher<V, TAG_BYTES> {
         Cipher::new(&array(self.key), &array(self.nonce))
     }
@@ -171,12 +166,16 @@ fn mac<V: Variant, const TAG_BYTES: usize>(keys: &Keys, input: &str) -> String {
 }
 
 fn answer<V: Variant, const TAG_BYTES: usize>(fields: &[&str]) -> String {
+    let keys = |key, nonce, ad| {
+        let ad = bytes(ad);
+        Keys { key, nonce, ad }
+    };
     match *fields {
-        ["seal", _, _, k, n, ad, message] => seal::<V, TAG_BYTES>(&Keys::new(k, n, ad), message),
-        ["open", _, _, k, n, ad, c, tag] => open::<V, TAG_BYTES>(&Keys::new(k, n, ad), c, tag),
-        ["stream", _, k, n, length] => stream::<V, TAG_BYTES>(&Keys::new(k, n, "-"), length),
-        ["xor", _, k, n, message] => xor::<V, TAG_BYTES>(&Keys::new(k, n, "-"), message),
-        ["mac", _, _, k, n, input] => mac::<V, TAG_BYTES>(&Keys::new(k, n, "-"), input),
+        ["seal", _, _, k, n, ad, message] => seal::<V, TAG_BYTES>(&keys(k, n, ad), message),
+        ["open", _, _, k, n, ad, c, tag] => open::<V, TAG_BYTES>(&keys(k, n, ad), c, tag),
+        ["stream", _, k, n, length] => stream::<V, TAG_BYTES>(&keys(k, n, "-"), length),
+        ["xor", _, k, n, message] => xor::<V, TAG_BYTES>(&keys(k, n, "-"), message),
+        ["mac", _, _, k, n, input] => mac::<V, TAG_BYTES>(&keys(k, n, "-"), input),
         _ => panic!("no call gives the answer to {fields:?}"),
     }
 }

@@ -110,12 +110,9 @@ fn seal(path: &Path) {
 /// Reads all of it, and a part of it.
 fn unseal(path: &Path) {
     let mut reader = SealedReader::new(File::open(path).unwrap(), &[7; 32]);
+    let count = std::io::copy(&mut reader, &mut std::io::sink());
+    assert_eq!(count.unwrap(), 1250 * 1100);
     let mut buffer = [0; 1000];
-    let mut count = 0;
-    while let Ok(more @ 1..) = reader.read(&mut buffer) {
-        count += more;
-    }
-    assert_eq!(count, 1250 * 1100);
     reader.seek(SeekFrom::Start(100_000)).unwrap();
     reader.read_exact(&mut buffer).unwrap();
     assert_eq!(buffer, [MARK; 1000]);

@@ -152,12 +152,10 @@ impl<R: Read + Seek> SealedReader<R> {
 
     /// Opens the record at a position.
     fn open_at(&mut self, position: Position) -> io::Result<Result<(), Error>> {
-        match self.move_to(position)? {
-            Ok(opener) => {
-                self.opener = Some(opener);
-                self.open_next()
-            }
-            Err(fault) => Ok(Err(fault)),
+        let moved = self.move_to(position)?;
+        match moved.map(|opener| self.opener = Some(opener)) {
+            Ok(()) => self.open_next(),
+            fault => Ok(fault),
         }
     }
 

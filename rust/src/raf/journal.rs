@@ -200,7 +200,6 @@ mod tests {
     use super::{PendingWrite, checked_writes, journaled_writes, pass_content};
     use crate::raf::Aegis256;
     use crate::raf::layout::{HEADER_BLOCK_BYTES, Layout, PageHeader};
-    use alloc::vec::Vec;
 
     /// A journal has only writes within the longest file.
     #[test]
@@ -214,7 +213,6 @@ mod tests {
             (0, true),
             ((1 << 63) - 4, true),
             ((1 << 63) - 3, false),
-            (u64::MAX - 2, false),
             (u64::MAX, false),
         ] {
             let bytes = &[4; 3];
@@ -228,10 +226,8 @@ mod tests {
                 // The file has no header, so any whole journal is accepted.
                 let file = [0; HEADER_BLOCK_BYTES];
                 let part = checked_writes::<Aegis256>(&file, &[3; 32], &journal).unwrap();
-                let found: Vec<_> = journaled_writes(part)
-                    .map(|write| (write.place, write.bytes))
-                    .collect();
-                assert_eq!(found, [(place, bytes.as_slice())]);
+                let writes = journaled_writes(part).map(|write| (write.place, write.bytes));
+                assert!(writes.eq([(place, &bytes[..])]));
             }
         }
     }
