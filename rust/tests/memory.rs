@@ -26,7 +26,7 @@ static LOOKS_AT_ALL: AtomicBool = AtomicBool::new(false);
 fn is_of_text(layout: Layout) -> bool {
     let lengths = [CHUNK_BYTES, PAGE_BYTES, READ_BYTES, RECORD_BYTES];
     let is_one = lengths.contains(&layout.size()) || GROWN.contains(&layout.size());
-    LOOKS_AT_ALL.load(SeqCst) || layout.align() == 1 && is_one
+    LOOKS_AT_ALL.load(SeqCst) || (layout.align() == 1 && is_one)
 }
 const LIMIT: usize = 1 << 20;
 /// What is read in one call, in whole pages, and what a commit gathers for one.

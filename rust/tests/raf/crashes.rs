@@ -110,7 +110,7 @@ fn each_call_of_a_creation() {
         let left = crashed(&Bytes::default(), &calls[..count], &mut random);
         let opened = Disks::of(left).open();
         let size = opened.as_ref().ok().map(File::size);
-        assert!(size == Some(0) || outcome(opened) == "Header" && count < calls.len());
+        assert!(size == Some(0) || (outcome(opened) == "Header" && count < calls.len()));
     }
 }
 
