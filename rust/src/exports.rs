@@ -198,9 +198,10 @@ impl Records<'_> {
     /// Seals the next message in place: it has [`RECORD_HEAD_BYTES`] in front of it, and 32 bytes after it for the tag. The
     /// last one ends the stream. Panics if there are fewer bytes.
     pub fn seal(&mut self, record: &mut [u8], is_last: bool) -> Answer {
-        let seal = match is_last {
-            true => hunkravy_record_seal_last,
-            false => hunkravy_record_seal,
+        let seal = if is_last {
+            hunkravy_record_seal_last
+        } else {
+            hunkravy_record_seal
         };
         let message_len = record.len().checked_sub(RECORD_BYTES);
         let message_len = message_len.expect("a record has room for its head and its tag");

@@ -9,11 +9,21 @@ use std::sync::{Mutex, MutexGuard, PoisonError};
 
 /// The number of the last batch, and the numbers of those that are being made, in all threads. A file knows its batch by the
 /// number, also if the program has moved the file elsewhere.
-type Batches = (u64, Vec<u64>);
+struct Batches {
+    last: u64,
+    open: Vec<u64>,
+}
+
+impl Batches {
+    const fn none() -> Mutex<Self> {
+        let open = Vec::new();
+        Mutex::new(Batches { last: 0, open })
+    }
+}
 
 /// A process that was forked has another list than the one that forked it: a thread of that one may have held its list, which
 /// then is locked for ever in the child. A child has no use for it, since it cannot use the files of the other.
-static BATCHES: [Mutex<Batches>; 16] = [const { Mutex::new((0, Vec::new())) }; 16];
+static BATCHES: [Mutex<Batches>; 16] = [const { Batches::none() }; 16];
 
 fn batches() -> MutexGuard<'static, Batches> {
     let list = &BATCHES[forks() as usize % BATCHES.len()];
@@ -22,12 +32,13 @@ fn batches() -> MutexGuard<'static, Batches> {
 
 /// Begins a batch, and returns its number.
 fn begin() -> Result<u64, Error> {
-    let (last, open) = &mut *batches();
-    let reserved = open.try_reserve(1);
+    let mut batches = batches();
+    let reserved = batches.open.try_reserve(1);
     reserved.map_err(|_| Error::Io(ErrorKind::OutOfMemory.into()))?;
-    *last += 1;
-    open.push(*last);
-    Ok(*last)
+    batches.last += 1;
+    let number = batches.last;
+    batches.open.push(number);
+    Ok(number)
 }
 
 /// What a batch inside another goes back to if it fails.
@@ -95,7 +106,7 @@ impl<A: Algorithm, I: RafIo, R: RafRng, J: RafIo> Drop for Batch<'_, A, I, R, J>
         }
         let savepoint = self.savepoint.take();
         if savepoint.is_none() {
-            batches().1.retain(|open| *open != self.number);
+            batches().open.retain(|open| *open != self.number);
         }
         if self.file.batch == self.number && !self.is_complete {
             self.file.go_back(savepoint);
@@ -146,7 +157,7 @@ impl<A: Algorithm, I: RafIo, R: RafRng, J: RafIo> Raf<A, I, R, J> {
 
     /// Returns whether the file is in a batch that is being made.
     pub(super) fn is_in_batch(&self) -> bool {
-        self.batch != 0 && self.owner.seems_this() && batches().1.contains(&self.batch)
+        self.batch != 0 && self.owner.seems_this() && batches().open.contains(&self.batch)
     }
 
     /// Discards the changes since a savepoint, or all since the last commit.

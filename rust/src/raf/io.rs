@@ -402,9 +402,10 @@ fn options() -> OpenOptions {
 /// Opens the file that was found at a path.
 fn open_same(path: &Path, found: &Metadata) -> io::Result<File> {
     let file = options().open(path)?;
-    match is_same(&file.metadata()?, found) {
-        true => Ok(file),
-        false => Err(no_journal()),
+    if is_same(&file.metadata()?, found) {
+        Ok(file)
+    } else {
+        Err(no_journal())
     }
 }
 
@@ -490,9 +491,10 @@ fn new_journal(path: &Path) -> io::Result<File> {
 
 /// The mode of the journal of a file of this mode. A journal in another group gives its group the rights of all others.
 fn mode_beside(of: u32, is_of_its_group: bool) -> u32 {
-    let group = match is_of_its_group {
-        true => of & GROUP,
-        false => others(of) << 3,
+    let group = if is_of_its_group {
+        of & GROUP
+    } else {
+        others(of) << 3
     };
     OWNER | group | others(of)
 }
