@@ -188,7 +188,7 @@ fn a_batch_of_a_child_alone() {
         });
         let is_made = |_| {
             // It ends by a signal if it waits for ever.
-            alarm(20);
+            alarm(100);
             let (mut file, _folder, _) = file();
             file.batch(|file| file.write(b"x", 0)).is_ok()
         };
