@@ -9,7 +9,6 @@ import fcntl
 import operator
 import os
 import stat
-import threading
 from types import TracebackType
 from typing import TYPE_CHECKING, Any, ContextManager, Optional, Self, Union
 
@@ -291,7 +290,7 @@ class RandomAccessFile(variants.Secret, turns.Turns):
             raise RuntimeError("the file is open already")
         is_new = bool(flags & os.O_EXCL)
         turns.Turns.__init__(self)
-        self._batches = threading.RLock()
+        self._batches = _native.Gate()
         self._process = process()
         # The bytes of each changed page, which are never changed in place, so that a savepoint need not copy them.
         self._changes: dict[int, bytes] = {}
@@ -506,7 +505,7 @@ class RandomAccessFile(variants.Secret, turns.Turns):
         """Makes several changes together: `with file.batch():` commits them at its end, or discards them after an exception.
 
         Changes that were made before are committed first. A batch in another one commits nothing: if it fails, its own
-        changes are discarded. Other threads wait until the batch ends, which must be in the thread in which it began.
+        changes are discarded. Other threads wait until the batch ends. If another thread ends or frees it, it fails.
         """
         return _native.Batch(self)
 

@@ -5,16 +5,16 @@ from __future__ import annotations
 import contextlib
 import sys
 import threading
-from typing import Any, ContextManager
+from typing import Any, ContextManager, cast
 
 
-def waited_for(lock: threading.RLock) -> threading.RLock:
+def waited_for(lock: Any) -> ContextManager[Any]:
     """Returns a lock. It raises an error if the interpreter ends, since a thread that has the lock then never goes on."""
     if sys.is_finalizing():
-        if not lock.acquire(blocking=False):
+        if not lock.acquire(False):
             raise RuntimeError("a method is called in another thread, and the interpreter ends")
         lock.release()
-    return lock
+    return cast(ContextManager[Any], lock)
 
 
 class Turns:

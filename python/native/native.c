@@ -879,6 +879,71 @@ static PyMethodDef records_methods[] = {
     {NULL, NULL, 0, NULL},
 };
 
+/* ---- The lock of batches. It is as threading.RLock, but another thread may end a batch whose own thread never does. */
+
+typedef struct {
+    PyObject_HEAD PyThread_type_lock lock;
+    /* The thread that has it, and how often. */
+    unsigned long owner;
+    size_t count;
+} Gate;
+
+static PyObject *gate_new(PyTypeObject *type, PyObject *arguments, PyObject *named)
+{
+    (void)named;
+    return PyArg_ParseTuple(arguments, "") ? new_object(type) : NULL;
+}
+
+static void gate_free(PyObject *object)
+{
+    free_object(object, sizeof(Gate));
+}
+
+/* Returns whether this thread has it now. While it waits, other threads and handlers of signals run. */
+static PyObject *gate_acquire(PyObject *object, PyObject *given)
+{
+    Gate *self = (Gate *)object;
+    int waits = 1;
+    if (!PyArg_ParseTuple(given, "|p", &waits)) {
+        return NULL;
+    }
+    if (self->count == 0 || self->owner != PyThread_get_thread_ident()) {
+        PyLockStatus status = PyThread_acquire_lock_timed(self->lock, 0, 0);
+        while (status != PY_LOCK_ACQUIRED) {
+            if (!waits || PyErr_CheckSignals() < 0) {
+                return waits ? NULL : PyBool_FromLong(0);
+            }
+            PyThreadState *released = PyEval_SaveThread();
+            status = PyThread_acquire_lock_timed(self->lock, -1, 1);
+            PyEval_RestoreThread(released);
+        }
+        self->owner = PyThread_get_thread_ident();
+    }
+    self->count++;
+    return PyBool_FromLong(1);
+}
+
+static PyObject *gate_release(PyObject *object, PyObject *none)
+{
+    Gate *self = (Gate *)object;
+    (void)none;
+    if (self->count == 0) {
+        return PyErr_SetString(PyExc_RuntimeError, "the lock is free"), NULL;
+    }
+    if (--self->count == 0) {
+        PyThread_release_lock(self->lock);
+    }
+    return Py_NewRef(Py_None);
+}
+
+static PyMethodDef gate_methods[] = {
+    {"acquire", gate_acquire, METH_VARARGS, NULL},
+    {"release", gate_release, METH_NOARGS, NULL},
+    {"__enter__", gate_acquire, METH_VARARGS, NULL},
+    {"__exit__", gate_release, METH_VARARGS, NULL},
+    {NULL, NULL, 0, NULL},
+};
+
 /*
  * ---- A batch of a random-access file. Python calls the handlers of signals between two of its own instructions, so an
  * exception of one leaves no function here half done. The methods of the file that are called here may raise one.
@@ -977,11 +1042,32 @@ static void leave(PyObject *lock)
     Py_DECREF(lock);
 }
 
-/* Ends it, and goes back unless it is whole. Keeps the exception that there may be. */
+/* Whether this is not the thread that began it. */
+static bool is_elsewhere(const Batch *self)
+{
+    return self->thread != PyThread_get_thread_ident();
+}
+
+/*
+ * Ends it, and goes back unless it is whole. Keeps the exception that there may be. In another thread it waits for the call
+ * that its own thread is in. If the interpreter ends and that never returns, it stays open.
+ */
 static void end(Batch *self, bool is_whole)
 {
-    PyObject *kind, *error, *traceback;
+    PyObject *kind, *error, *traceback, *turn = NULL;
     PyErr_Fetch(&kind, &error, &traceback);
+    if (is_elsewhere(self)) {
+        PyObject *taken = NULL;
+        while (taken == NULL && (turn = PyObject_CallMethod(self->file, "_turn", NULL)) != NULL) {
+            taken = PyObject_CallMethod(turn, "__enter__", NULL);
+            PyErr_Clear();
+            Py_DECREF(taken == NULL ? turn : taken);
+        }
+        if (turn == NULL) {
+            PyErr_Restore(kind, error, traceback);
+            return;
+        }
+    }
     if (self->savepoint != NULL && is_open(self)) {
         if (!is_whole) {
             go_back(self);
@@ -991,6 +1077,9 @@ static void end(Batch *self, bool is_whole)
     PyErr_Clear();
     Py_CLEAR(self->savepoint);
     leave(self->lock);
+    if (turn != NULL) {
+        leave(turn);
+    }
     PyErr_Restore(kind, error, traceback);
 }
 
@@ -1028,11 +1117,17 @@ static PyObject *batch_exit(PyObject *object, PyObject *given)
     if (!PyArg_ParseTuple(given, "OOO", &kind, &error, &traceback)) {
         return NULL;
     }
-    if (self->savepoint == NULL || self->thread != PyThread_get_thread_ident()) {
-        return PyErr_SetString(PyExc_RuntimeError, "the batch has not begun in this thread, or has ended"), NULL;
+    if (self->savepoint == NULL) {
+        return PyErr_SetString(PyExc_RuntimeError, "the batch has not begun, or has ended"), NULL;
     }
-    PyObject *result =
-        kind != Py_None ? Py_NewRef(Py_None) : PyObject_CallMethod(self->file, "_end_batch", "(O)", self->savepoint);
+    PyObject *result = NULL;
+    if (kind != Py_None) {
+        result = Py_NewRef(Py_None);
+    } else if (is_elsewhere(self)) {
+        PyErr_SetString(PyExc_RuntimeError, "a batch ends in the thread in which it began");
+    } else {
+        result = PyObject_CallMethod(self->file, "_end_batch", "(O)", self->savepoint);
+    }
     end(self, kind == Py_None && result != NULL);
     return result;
 }
@@ -1042,7 +1137,7 @@ static void batch_free(PyObject *object)
 {
     Batch *self = (Batch *)object;
     PyTypeObject *type = Py_TYPE(object);
-    if (self->savepoint != NULL && self->thread == PyThread_get_thread_ident()) {
+    if (self->savepoint != NULL) {
         end(self, false);
     }
     Py_XDECREF(self->savepoint);
@@ -1064,6 +1159,8 @@ static PyType_Slot cipher_slots[] = {
 static PyType_Slot state_slots[] = {{Py_tp_dealloc, SLOT(state_free)}, {Py_tp_methods, state_methods}, {0, NULL}};
 static PyType_Slot records_slots[] = {
     {Py_tp_new, SLOT(records_new)}, {Py_tp_dealloc, SLOT(records_free)}, {Py_tp_methods, records_methods}, {0, NULL}};
+static PyType_Slot gate_slots[] = {
+    {Py_tp_new, SLOT(gate_new)}, {Py_tp_dealloc, SLOT(gate_free)}, {Py_tp_methods, gate_methods}, {0, NULL}};
 static PyType_Slot batch_slots[] = {
     {Py_tp_new, SLOT(batch_new)}, {Py_tp_dealloc, SLOT(batch_free)}, {Py_tp_methods, batch_methods}, {0, NULL}};
 
@@ -1073,6 +1170,7 @@ static PyType_Spec specs[] = {
     {"hunkravy._native.Cipher", sizeof(Cipher), 0, TYPE_FLAGS, cipher_slots},
     {"hunkravy._native.State", sizeof(State), 0, TYPE_FLAGS | Py_TPFLAGS_DISALLOW_INSTANTIATION, state_slots},
     {"hunkravy._native.Records", sizeof(Records), 0, TYPE_FLAGS, records_slots},
+    {"hunkravy._native.Gate", sizeof(Gate), 0, TYPE_FLAGS, gate_slots},
     {"hunkravy._native.Batch", sizeof(Batch), 0, TYPE_FLAGS, batch_slots},
 };
 

@@ -5,6 +5,7 @@ import contextlib
 import dis
 import errno
 import fcntl
+import functools
 import io
 import itertools
 import os
@@ -29,12 +30,18 @@ AFTER = b"and after" * 60
 PAGE = 256
 
 
+@functools.cache
+def places_after_calls(code: Any) -> set[int]:
+    """The offsets in a function after which Python calls handlers."""
+    found = list(dis.get_instructions(code))
+    return {after.offset for call, after in zip(found, found[1:]) if call.opname.startswith("CALL")}
+
+
 def interrupted_at(number: int, call: Callable[[], object], *files: str) -> bool:
     """Makes a call, and raises KeyboardInterrupt in it where Python calls the handler of a signal: at the start of a function
     and after a call, in these files, at the place of this number. Returns whether there is one.
     """
     seen = 0
-    after_calls: dict[Any, set[int]] = {}
 
     def at_a_place() -> None:
         nonlocal seen
@@ -50,12 +57,8 @@ def interrupted_at(number: int, call: Callable[[], object], *files: str) -> bool
         frame.f_trace_lines, frame.f_trace_opcodes = False, True
         if event == "call":
             at_a_place()
-        elif event == "opcode":
-            if code not in after_calls:
-                found = list(dis.get_instructions(code))
-                after_calls[code] = {after.offset for call, after in zip(found, found[1:]) if call.opname.startswith("CALL")}
-            if frame.f_lasti in after_calls[code]:
-                at_a_place()
+        elif event == "opcode" and frame.f_lasti in places_after_calls(code):
+            at_a_place()
         return trace
 
     sys.settrace(trace)
@@ -507,13 +510,25 @@ class Files(unittest.TestCase):
             self.assertEqual((sys.getrefcount(file), sys.getrefcount(_native.Batch)), before)
 
     def test_a_batch_that_another_thread_ends(self) -> None:
+        def change() -> Generator[None, None, None]:
+            with file.batch():
+                file.write_at(0, b"half")
+                yield
+
         with RandomAccessFile.create(self.path, KEY) as file:
             batch = file.batch()
             batch.__enter__()
-            file.write_at(0, b"kept")
+            file.write_at(0, b"half")
             with concurrent.futures.ThreadPoolExecutor() as other:
                 self.assertRaises(RuntimeError, other.submit(batch.__exit__, None, None, None).result)
-            batch.__exit__(None, None, None)
+                # The garbage of one thread is freed in another.
+                changes = [change()]
+                next(changes[0])
+                other.submit(changes.clear).result()
+                self.assertEqual(other.submit(file.read_at, 0, 9).result(), b"")
+            with file.batch():
+                file.write_at(0, b"kept")
+            self.assertEqual(file._counter, 1)
         self.assertEqual(contents(self.path), b"kept")
 
     def test_locks_and_moves(self) -> None:
