@@ -4,8 +4,7 @@ use crate::error::{accepted, done};
 use crate::exports::{self, State};
 use crate::wipe::wipe;
 use crate::{Error, MAX_AEAD_BYTES, Tag, Variant};
-use core::marker::PhantomData;
-use core::mem;
+use core::{marker::PhantomData, mem};
 
 /// Decrypts a message in chunks of any lengths, into a destination that it borrows for the whole message.
 ///

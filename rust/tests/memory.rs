@@ -29,9 +29,8 @@ fn is_of_text(layout: Layout) -> bool {
     LOOKS_AT_ALL.load(SeqCst) || (layout.align() == 1 && is_one)
 }
 const LIMIT: usize = 1 << 20;
-/// What is read in one call, in whole pages, and what a commit gathers for one.
+/// What is read in one call, in whole pages.
 const READ_BYTES: usize = 64 * 1024 / PAGE_BYTES * PAGE_BYTES;
-const GATHERED: usize = 256 * 1024;
 /// A text is of this byte, in which a freed page is recognized.
 const MARK: u8 = 0xc7;
 
@@ -218,7 +217,8 @@ fn memory_of_files_is_limited_and_wiped() {
     let changes = LIMIT + LIMIT / 10 + 2 * CHUNK_BYTES;
     // Beside a page of the text: its place in a map or a list.
     let pages = changes.div_ceil(CHUNK_BYTES) * (CHUNK_BYTES + 240);
-    let most = pages + LIMIT / 10 + READ_BYTES + GATHERED + 20_000;
+    // And what a commit gathers for one call.
+    let most = pages + LIMIT / 10 + READ_BYTES + 256 * 1024 + 20_000;
     let written = most_of(|| write(&path));
     assert!(written > LIMIT && written < most, "{written} of {most}");
     let read = most_of(|| read(&path));

@@ -2,6 +2,7 @@
 //! writes them. Also crashes, and openings that fail or crash, in any order.
 
 use crate::support::*;
+use hunkravy::raf::Error;
 
 /// The disks of a machine, and what their file may contain.
 struct World {
@@ -51,13 +52,11 @@ impl World {
     /// Opens the file. What it then contains is certain.
     fn open_and_read(&mut self) -> Option<File> {
         self.plan();
-        let opened = self.disks.open();
-        if opened.is_err() {
-            let error = outcome(opened);
-            assert!(["Other", "Uncategorized"].contains(&error.as_str()));
-            return None;
-        }
-        let mut file = opened.unwrap();
+        let mut file = match self.disks.open() {
+            Ok(file) => file,
+            Err(Error::Io(_)) => return None,
+            Err(error) => panic!("{error:?}"),
+        };
         let text = text_of(&mut file);
         assert!(self.allowed.contains(&text));
         self.seen[2] += usize::from(self.allowed.len() > 1);
@@ -88,8 +87,7 @@ impl World {
         if let Some(file) = self.open_and_read() {
             self.change(file);
         }
-        let is_off = self.disks.log().left == 0;
-        if is_off {
+        if self.disks.log().left == 0 {
             self.crash();
         }
     }

@@ -3,10 +3,9 @@
 use crate::support::*;
 use hunkravy::raf::*;
 use std::cell::Cell;
-use std::fs;
-use std::io;
 use std::os::unix::fs::MetadataExt;
 use std::rc::Rc;
+use std::{fs, io};
 
 /// A storage on a disk with room for so many bytes, which a new size does not take, and a write or a reservation does.
 fn small(disk: &Disk, room: &Rc<Cell<u64>>) -> impl RafIo + Clone + use<> {
