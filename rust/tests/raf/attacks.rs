@@ -217,21 +217,6 @@ fn a_journal_with_no_record() {
     assert_eq!(folder.names(), ["file", "file.journal"]);
 }
 
-/// A file of no byte is created, and not opened. What is created over a longer one has none of its bytes.
-#[test]
-fn files_in_place_of_others() {
-    let folder = Folder::new();
-    fs::write(folder.file(), b"").unwrap();
-    assert_eq!(outcome(folder.create()), "AlreadyExists");
-    assert_eq!(fs::read(folder.file()).unwrap(), b"");
-    let io = FileIo::open(folder.file()).unwrap();
-    drop(RafBuilder::<Aegis256>::new().create(io, &KEY).unwrap());
-    assert_eq!(folder.text(), b"");
-    fs::write(folder.file(), [7; 10_000]).unwrap();
-    drop(folder.create_over().unwrap());
-    assert_eq!(fs::metadata(folder.file()).unwrap().len(), 512);
-}
-
 /// Bytes after the last page are read by nobody, and are written over when the text grows.
 #[test]
 fn bytes_after_the_last_page() {
