@@ -18,7 +18,7 @@ flipped() {
 for change in "flipped $((sealed - 1))" "flipped 134000" "resized $((sealed + 1))" "resized $((sealed - 1))"; do
     case $change in
         flipped*) flipped "${change#* }" ;;
-        *) (cat "$work/sealed" && echo) | head -c "${change#* }" > "$work/changed" ;;
+        *) cp "$work/sealed" "$work/changed" && truncate -s "${change#* }" "$work/changed" ;;
     esac
     if "$@" open "$work/key" < "$work/changed" > "$work/opened" 2> "$work/said"; then
         echo "check_records.sh: a stream that is $change opens" >&2
