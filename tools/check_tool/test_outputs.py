@@ -49,9 +49,13 @@ REJECTED = {
     "dangling is a link to a missing file": ("seal --force -k key small dangling",),
     "is a folder or a block device": ("seal --force -k key small folder",),
     "socket cannot be written": ("seal --force -k key small socket",),
-    "is the pipe of standard input": (
+    "is a pipe that only this run reads": (
         "seal --force -k key small /dev/stdin <> pipe",
         "open -k key sealed --force pipe <> pipe",
+        "open -k key sealed <> pipe >&0",
+        "keygen /dev/stdin <> pipe",
+        "seal -k key small <(:)",
+        "open --force -k key sealed <(:)",
     ),
     # Descriptors that the program opens itself.
     "became a device or a pipe": ("seal -k key /dev/null /dev/fd/3 3>&-", "seal -k key /dev/null /dev/stdout >&-"),

@@ -66,7 +66,7 @@ pub enum Failure<'a> {
     Appeared(Name<'a>),
     #[error("{0} is also the input: input and output must be different files")]
     SameFile(Name<'a>),
-    #[error("{0} is the pipe of standard input, so what is written would be lost: give another OUT")]
+    #[error("{0} is a pipe that only this run reads, so what is written would be lost: give another OUT")]
     OwnPipe(Name<'a>),
     #[error("{0} is the key file {1}: writing it would destroy the key")]
     OverKey(Name<'a>, Name<'a>),

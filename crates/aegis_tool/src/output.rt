@@ -24,6 +24,9 @@ use std::{fs, io};
 // The mode of new files: only the owner can read and write them.
 const OWNER_ONLY: u32 = 0o600;
 
+// The bit of a mode that a name of a descriptor in `/proc` has if it may be written.
+const OWNER_WRITES: u32 = 0o200;
+
 /// What all names of a file share.
 #[derive(Clone, Copy, PartialEq, Eq)]
 pub enum Identity {
@@ -92,11 +95,8 @@ fn identity_of(rt: &HostRuntime, input: Place<'_>) -> io::Result<Option<Identity
     }
 }
 
-// Whether an output is named that is the pipe of standard input: only this run could read what is written there.
-fn is_own_pipe(rt: &HostRuntime, output: Place<'_>) -> bool {
-    let Place::File(name) = output else {
-        return false;
-    };
+// Whether this is the pipe of standard input: only this run could read what is written there.
+fn is_own_pipe(rt: &HostRuntime, name: &str) -> bool {
     match (fs::metadata(rt, name), fs::metadata(rt, STANDARD_INPUT)) {
         (Ok(found), Ok(own)) => own.file_type().is_fifo()
             && Identity::new(&found) == Identity::new(&own),
@@ -127,7 +127,7 @@ pub fn refuse_inputs<'a>(
     if read == written {
         return Err(Failure::SameFile(output.output_name()));
     }
-    if is_own_pipe(rt, output) {
+    if is_own_pipe(rt, name) {
         return Err(Failure::OwnPipe(output.output_name()));
     }
     Ok(())
@@ -217,12 +217,20 @@ enum Found {
     Stream,
 }
 
+// Whether this names a descriptor that may only be read, as `<(COMMAND)` of a shell does.
+fn is_only_read(rt: &HostRuntime, name: &str) -> bool {
+    match fs::symlink_metadata(rt, name) {
+        Ok(entry) => entry.is_symlink() && entry.mode() & OWNER_WRITES == 0,
+        Err(_) => false,
+    }
+}
+
 // Whether a name can be that of a new file.
 fn names_a_file(name: &str) -> bool {
     !name.is_empty() && !name.ends_with('/')
 }
 
-// Looks at an output. It is an error if it is a folder or a block device.
+// Looks at an output. It is an error if it is a folder or a block device, or a pipe that only this run reads.
 fn find<'a>(rt: &HostRuntime, name: &'a str) -> Result<Found, Failure<'a>> {
     let found = match fs::metadata(rt, name) {
         Ok(found) => found,
@@ -234,6 +242,9 @@ fn find<'a>(rt: &HostRuntime, name: &'a str) -> Result<Found, Failure<'a>> {
     // A block device keeps what is written, as a file does.
     if found.is_dir() || found.file_type().is_block_device() {
         return Err(Failure::NoOutput(Name(name)));
+    }
+    if found.file_type().is_fifo() && (is_own_pipe(rt, name) || is_only_read(rt, name)) {
+        return Err(Failure::OwnPipe(Name(name)));
     }
     if found.is_file() {
         Ok(Found::File(Identity::new(&found)))
