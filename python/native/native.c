@@ -899,19 +899,14 @@ static void gate_free(PyObject *object)
     free_object(object, sizeof(Gate));
 }
 
-/* Returns whether this thread has it now. While it waits, other threads and handlers of signals run. */
-static PyObject *gate_acquire(PyObject *object, PyObject *given)
+/* Returns 1 if this thread has it now, and -1 after an exception. While it waits, other threads and handlers of signals run. */
+static int acquire(Gate *self, bool waits)
 {
-    Gate *self = (Gate *)object;
-    int waits = 1;
-    if (!PyArg_ParseTuple(given, "|p", &waits)) {
-        return NULL;
-    }
     if (self->count == 0 || self->owner != PyThread_get_thread_ident()) {
         PyLockStatus status = PyThread_acquire_lock_timed(self->lock, 0, 0);
         while (status != PY_LOCK_ACQUIRED) {
             if (!waits || PyErr_CheckSignals() < 0) {
-                return waits ? NULL : PyBool_FromLong(0);
+                return waits ? -1 : 0;
             }
             PyThreadState *released = PyEval_SaveThread();
             status = PyThread_acquire_lock_timed(self->lock, -1, 1);
@@ -920,19 +915,33 @@ static PyObject *gate_acquire(PyObject *object, PyObject *given)
         self->owner = PyThread_get_thread_ident();
     }
     self->count++;
-    return PyBool_FromLong(1);
+    return 1;
+}
+
+static void release_gate(Gate *self)
+{
+    if (--self->count == 0) {
+        PyThread_release_lock(self->lock);
+    }
+}
+
+static PyObject *gate_acquire(PyObject *object, PyObject *given)
+{
+    int waits = 1;
+    if (!PyArg_ParseTuple(given, "|p", &waits)) {
+        return NULL;
+    }
+    int result = acquire((Gate *)object, waits != 0);
+    return result < 0 ? NULL : PyBool_FromLong(result);
 }
 
 static PyObject *gate_release(PyObject *object, PyObject *none)
 {
-    Gate *self = (Gate *)object;
     (void)none;
-    if (self->count == 0) {
+    if (((Gate *)object)->count == 0) {
         return PyErr_SetString(PyExc_RuntimeError, "the lock is free"), NULL;
     }
-    if (--self->count == 0) {
-        PyThread_release_lock(self->lock);
-    }
+    release_gate((Gate *)object);
     return Py_NewRef(Py_None);
 }
 
@@ -953,7 +962,7 @@ typedef struct {
     PyObject_HEAD PyObject *file;
     /* From its beginning to its end: what it goes back to if it fails, the lock of batches, and the thread that has it. */
     PyObject *savepoint;
-    PyObject *lock;
+    Gate *gate;
     unsigned long thread;
 } Batch;
 
@@ -1036,12 +1045,6 @@ static void remove_batch(const Batch *self)
     Py_XDECREF(at);
 }
 
-static void leave(PyObject *lock)
-{
-    Py_XDECREF(PyObject_CallMethod(lock, "__exit__", "OOO", Py_None, Py_None, Py_None));
-    Py_DECREF(lock);
-}
-
 /* Whether this is not the thread that began it. */
 static bool is_elsewhere(const Batch *self)
 {
@@ -1076,9 +1079,13 @@ static void end(Batch *self, bool is_whole)
     }
     PyErr_Clear();
     Py_CLEAR(self->savepoint);
-    leave(self->lock);
+    if (self->gate != NULL) {
+        release_gate(self->gate);
+        Py_CLEAR(self->gate);
+    }
     if (turn != NULL) {
-        leave(turn);
+        Py_XDECREF(PyObject_CallMethod(turn, "__exit__", "OOO", Py_None, Py_None, Py_None));
+        Py_DECREF(turn);
     }
     PyErr_Restore(kind, error, traceback);
 }
@@ -1092,13 +1099,19 @@ static PyObject *batch_enter(PyObject *object, PyObject *none)
         return PyErr_SetString(PyExc_RuntimeError, "this batch has begun"), NULL;
     }
     PyObject *lock = PyObject_CallMethod(self->file, "_next_batch", NULL);
-    PyObject *taken = lock == NULL ? NULL : PyObject_CallMethod(lock, "__enter__", NULL);
-    if (taken == NULL) {
-        Py_XDECREF(lock);
+    PyObject *gate = lock == NULL ? NULL : PyObject_GetAttrString(self->file, "_batches");
+    /* In another process than that of the file there is another lock, and beginning is an error. */
+    bool is_own = lock == gate;
+    Py_XDECREF(lock);
+    if (gate == NULL || (is_own && acquire((Gate *)gate, true) < 0)) {
+        Py_XDECREF(gate);
         return NULL;
     }
-    Py_DECREF(taken);
-    self->lock = lock;
+    if (is_own) {
+        self->gate = (Gate *)gate;
+    } else {
+        Py_DECREF(gate);
+    }
     self->thread = PyThread_get_thread_ident();
     self->savepoint = PyObject_CallMethod(self->file, "_begin_batch", NULL);
     if (self->savepoint == NULL) {
