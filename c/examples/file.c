@@ -66,7 +66,7 @@ static int emptied(int fd)
     return ftruncate(fd, 0) == 0 && fsync(fd) == 0;
 }
 
-/* Each name of a file would have a journal, and a journal of several names may be another file. */
+/* Each name of a file would have a journal, and a journal with several names may be another file. */
 static int has_one_name(int fd)
 {
     struct stat found;

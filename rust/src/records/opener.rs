@@ -42,7 +42,7 @@ pub struct OpenedInPlace<'b> {
 pub struct Opener<'c> {
     records: Records<'c>,
     next: Position,
-    /// What further calls return: a fault, or after the last record that nothing may follow it.
+    /// The answer to further calls: a fault, or after the last record that nothing may follow it.
     end: Option<Error>,
 }
 
