@@ -503,11 +503,12 @@ class Files(unittest.TestCase):
 
     def test_batches_keep_no_file(self) -> None:
         with RandomAccessFile.create(self.path, KEY) as file:
-            before = sys.getrefcount(file), sys.getrefcount(_native.Batch)
+            kept = (file, file._batches, _native.Batch)
+            before = list(map(sys.getrefcount, kept))
             for divisor in (0, 1) * 50:
                 with contextlib.suppress(ZeroDivisionError), file.batch():
                     1 / divisor
-            self.assertEqual((sys.getrefcount(file), sys.getrefcount(_native.Batch)), before)
+            self.assertEqual(list(map(sys.getrefcount, kept)), before)
 
     def test_a_batch_that_another_thread_ends(self) -> None:
         def change() -> Generator[None, None, None]:
@@ -522,8 +523,13 @@ class Files(unittest.TestCase):
             with concurrent.futures.ThreadPoolExecutor() as other:
                 self.assertRaises(RuntimeError, other.submit(batch.__exit__, None, None, None).result)
                 # The garbage of one thread is freed in another.
-                changes = [change()]
+                changes: list[Any] = [change()]
                 next(changes[0])
+                outer = file._batch
+                changes.append(file.batch())
+                changes[1].__enter__()
+                other.submit(changes.__delitem__, 1).result()
+                self.assertIs(file._batch, outer)
                 other.submit(changes.clear).result()
                 self.assertEqual(other.submit(file.read_at, 0, 9).result(), b"")
             with file.batch():
