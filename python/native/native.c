@@ -1145,17 +1145,27 @@ static PyObject *batch_exit(PyObject *object, PyObject *given)
     return result;
 }
 
+/* So the collector finds one that is kept in its own file. It frees the file first, so there is nothing to clear here. */
+static int batch_traverse(PyObject *object, visitproc visit, void *arg)
+{
+    Py_VISIT(Py_TYPE(object));
+    Py_VISIT(((Batch *)object)->file);
+    Py_VISIT(((Batch *)object)->savepoint);
+    return 0;
+}
+
 /* One that a signal has left before its block, or that nobody has ended, fails. */
 static void batch_free(PyObject *object)
 {
     Batch *self = (Batch *)object;
     PyTypeObject *type = Py_TYPE(object);
+    PyObject_GC_UnTrack(object);
     if (self->savepoint != NULL) {
         end(self, false);
     }
     Py_XDECREF(self->savepoint);
     Py_XDECREF(self->file);
-    PyObject_Free(object);
+    PyObject_GC_Del(object);
     Py_DECREF(type);
 }
 
@@ -1174,8 +1184,8 @@ static PyType_Slot records_slots[] = {
     {Py_tp_new, SLOT(records_new)}, {Py_tp_dealloc, SLOT(records_free)}, {Py_tp_methods, records_methods}, {0, NULL}};
 static PyType_Slot gate_slots[] = {
     {Py_tp_new, SLOT(gate_new)}, {Py_tp_dealloc, SLOT(gate_free)}, {Py_tp_methods, gate_methods}, {0, NULL}};
-static PyType_Slot batch_slots[] = {
-    {Py_tp_new, SLOT(batch_new)}, {Py_tp_dealloc, SLOT(batch_free)}, {Py_tp_methods, batch_methods}, {0, NULL}};
+static PyType_Slot batch_slots[] = {{Py_tp_new, SLOT(batch_new)}, {Py_tp_dealloc, SLOT(batch_free)},
+    {Py_tp_traverse, SLOT(batch_traverse)}, {Py_tp_methods, batch_methods}, {0, NULL}};
 
 /* Only `Cipher.begin` makes states. The bit of Py_TPFLAGS_IMMUTABLETYPE keeps Python code from changing the types. */
 enum { TYPE_FLAGS = Py_TPFLAGS_DEFAULT | 1 << 8 };
@@ -1184,7 +1194,7 @@ static PyType_Spec specs[] = {
     {"hunkravy._native.State", sizeof(State), 0, TYPE_FLAGS | Py_TPFLAGS_DISALLOW_INSTANTIATION, state_slots},
     {"hunkravy._native.Records", sizeof(Records), 0, TYPE_FLAGS, records_slots},
     {"hunkravy._native.Gate", sizeof(Gate), 0, TYPE_FLAGS, gate_slots},
-    {"hunkravy._native.Batch", sizeof(Batch), 0, TYPE_FLAGS, batch_slots},
+    {"hunkravy._native.Batch", sizeof(Batch), 0, TYPE_FLAGS | Py_TPFLAGS_HAVE_GC, batch_slots},
 };
 
 static int execute(PyObject *object)

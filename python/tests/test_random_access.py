@@ -6,6 +6,7 @@ import dis
 import errno
 import fcntl
 import functools
+import gc
 import io
 import itertools
 import os
@@ -502,6 +503,8 @@ class Files(unittest.TestCase):
         self.assertEqual(contents(self.path), b"after ")
 
     def test_batches_keep_no_file(self) -> None:
+        # What earlier tests have left.
+        gc.collect()
         with RandomAccessFile.create(self.path, KEY) as file:
             kept = (file, file._batches, _native.Batch)
             before = list(map(sys.getrefcount, kept))
@@ -509,6 +512,18 @@ class Files(unittest.TestCase):
                 with contextlib.suppress(ZeroDivisionError), file.batch():
                     1 / divisor
             self.assertEqual(list(map(sys.getrefcount, kept)), before)
+
+    def test_a_batch_that_its_own_file_keeps(self) -> None:
+        RandomAccessFile.create(self.path, KEY).close()
+        for calls in ((), ("__enter__",)):
+            file: Any = RandomAccessFile(self.path, KEY)
+            file.kept = file.batch()
+            for call in calls:
+                getattr(file.kept, call)()
+                file.write_at(0, b"lost")
+            del file
+            gc.collect()
+            self.assertEqual(contents(self.path), b"")
 
     def test_a_batch_that_another_thread_ends(self) -> None:
         def change() -> Generator[None, None, None]:
