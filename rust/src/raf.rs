@@ -70,7 +70,7 @@ pub use rng::OsRng;
 use rng::checked_nonce;
 pub use rng::{DefaultRng, RafRng};
 
-use crate::memory::{with_room, zeros};
+use crate::memory::{check_memory, with_room, zeros};
 use crate::wipe::wipe;
 use alloc::vec::Vec;
 use changes::{Changes, SealedChanges, copy_of};
@@ -120,7 +120,7 @@ pub const MAX_SIZE: u64 = 1 << 60;
 ///
 /// If memory runs out, the error is [`Error::Io`] of kind [`OutOfMemory`](std::io::ErrorKind::OutOfMemory), and nothing has
 /// changed. Exceptions: the standard library ends the program if it finds none for the text of an error, or for a path while a
-/// file is opened. Opening checks first that there are 64 KiB.
+/// file is opened or, at a path of more than 300 bytes, committed. Both check first that there are 64 KiB.
 #[must_use]
 pub struct Raf<A: Algorithm, I: RafIo = FileIo, R: RafRng = DefaultRng, J: RafIo = JournalFile> {
     io: I,
@@ -363,6 +363,8 @@ impl<A: Algorithm, I: RafIo, R: RafRng, J: RafIo> Raf<A, I, R, J> {
         let sealed = SealedChanges::new(&self.layout, &mut self.changes, numbers, nonces);
         let [first, last] = headers.map(|bytes| PendingWrite { place: 0, bytes });
         writes.extend(once(first).chain(sealed.writes()).chain(once(last)));
+        // What is allocated below are copies of long paths.
+        check_memory()?;
         // Not before: sealing may take long, and the file may be moved meanwhile.
         self.io.check_path()?;
         let new = self.layout.page_place(self.layout.page_count(self.stored));

@@ -180,6 +180,22 @@ fn files_at_paths() {
     assert!(!path.exists());
 }
 
+/// A commit without memory returns an error before the standard library copies a long path, which would end the program.
+#[test]
+fn commits_at_long_paths() {
+    let folder = Folder::new();
+    let deep = folder.path(&"deep/".repeat(80));
+    fs::create_dir_all(&deep).unwrap();
+    let mut file = Raf::<Aegis256>::create_file(deep.join("file"), &KEY).unwrap();
+    file.write(b"text", 0).unwrap();
+    // Five allocations of its own, and the check.
+    for number in 0..6 {
+        let (result, _) = with_failure(number, false, || file.commit());
+        assert_eq!(outcome(result), "OutOfMemory");
+    }
+    file.commit().unwrap();
+}
+
 #[test]
 fn creations() {
     let make = || quiet(&Bytes::default());
