@@ -881,10 +881,21 @@ static PyMethodDef records_methods[] = {
 
 /* ---- The lock of batches. It is as threading.RLock, but another thread may end a batch whose own thread never does. */
 
+/* Returns the number of this thread. No later one gets it, as it may get the identity that the system has given to this one. */
+static uint64_t this_thread(void)
+{
+    static _Atomic uint64_t last;
+    static _Thread_local uint64_t own;
+    if (own == 0) {
+        own = ++last;
+    }
+    return own;
+}
+
 typedef struct {
     PyObject_HEAD PyThread_type_lock lock;
     /* The thread that has it, and how often. */
-    unsigned long owner;
+    uint64_t owner;
     size_t count;
 } Gate;
 
@@ -902,7 +913,7 @@ static void gate_free(PyObject *object)
 /* Returns 1 if this thread has it now, and -1 after an exception. While it waits, other threads and handlers of signals run. */
 static int acquire(Gate *self, bool waits)
 {
-    if (self->count == 0 || self->owner != PyThread_get_thread_ident()) {
+    if (self->count == 0 || self->owner != this_thread()) {
         PyLockStatus status = PyThread_acquire_lock_timed(self->lock, 0, 0);
         while (status != PY_LOCK_ACQUIRED) {
             if (!waits || PyErr_CheckSignals() < 0) {
@@ -912,7 +923,7 @@ static int acquire(Gate *self, bool waits)
             status = PyThread_acquire_lock_timed(self->lock, -1, 1);
             PyEval_RestoreThread(released);
         }
-        self->owner = PyThread_get_thread_ident();
+        self->owner = this_thread();
     }
     self->count++;
     return 1;
@@ -963,7 +974,7 @@ typedef struct {
     /* From its beginning to its end: what it goes back to if it fails, the lock of batches, and the thread that has it. */
     PyObject *savepoint;
     Gate *gate;
-    unsigned long thread;
+    uint64_t thread;
 } Batch;
 
 static PyObject *batch_new(PyTypeObject *type, PyObject *arguments, PyObject *named)
@@ -1048,7 +1059,7 @@ static void remove_batch(const Batch *self)
 /* Whether this is not the thread that began it. */
 static bool is_elsewhere(const Batch *self)
 {
-    return self->thread != PyThread_get_thread_ident();
+    return self->thread != this_thread();
 }
 
 /*
@@ -1112,7 +1123,7 @@ static PyObject *batch_enter(PyObject *object, PyObject *none)
     } else {
         Py_DECREF(gate);
     }
-    self->thread = PyThread_get_thread_ident();
+    self->thread = this_thread();
     self->savepoint = PyObject_CallMethod(self->file, "_begin_batch", NULL);
     if (self->savepoint == NULL) {
         end(self, false);

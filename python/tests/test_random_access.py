@@ -552,6 +552,30 @@ class Files(unittest.TestCase):
             self.assertEqual(file._counter, 1)
         self.assertEqual(contents(self.path), b"kept")
 
+    def test_a_thread_after_one_that_has_left_its_batch(self) -> None:
+        def leave() -> None:
+            left.enter_context(file.batch())
+            file.write_at(0, b"half")
+
+        def change() -> None:
+            with file.batch():
+                file.write_at(0, b"kept")
+
+        left = contextlib.ExitStack()
+        with RandomAccessFile.create(self.path, KEY) as file:
+            ended = threading.Thread(target=leave)
+            ended.start()
+            ended.join()
+            # It gets the identity of the one that has ended.
+            other = threading.Thread(target=change)
+            other.start()
+            other.join(0.2)
+            waits = other.is_alive()
+            self.assertRaises(RuntimeError, left.close)
+            other.join()
+        self.assertTrue(waits)
+        self.assertEqual(contents(self.path), b"kept")
+
     def test_locks_and_moves(self) -> None:
         file = RandomAccessFile.create(self.path, KEY)
         self.assertCause("locked", RandomAccessFile, self.path, KEY)
