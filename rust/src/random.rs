@@ -7,16 +7,6 @@ use std::sync::atomic::{AtomicBool, Ordering};
 /// Whether a byte was read from `/dev/random` in this process.
 static WAS_SEEDED: AtomicBool = AtomicBool::new(false);
 
-/// Opens their source, once the system has seeded it. Until then `/dev/urandom` gives bytes that can be guessed, and a
-/// byte of `/dev/random` is waited for.
-pub(crate) fn open() -> io::Result<File> {
-    if !WAS_SEEDED.load(Ordering::Relaxed) {
-        File::open("/dev/random")?.read_exact(&mut [0])?;
-        WAS_SEEDED.store(true, Ordering::Relaxed);
-    }
-    File::open("/dev/urandom")
-}
-
 /// Fills a key, a nonce or a prefix with random bytes of the system.
 ///
 /// Early after a boot it waits until the system has seeded its source.
@@ -25,7 +15,12 @@ pub(crate) fn open() -> io::Result<File> {
 ///
 /// If `/dev/random` or `/dev/urandom` cannot be opened or read. Do not use `buf` then.
 pub fn fill_random(buf: &mut [u8]) -> io::Result<()> {
-    open()?.read_exact(buf)
+    // Until the source is seeded, `/dev/urandom` gives bytes that can be guessed, and `/dev/random` none.
+    if !WAS_SEEDED.load(Ordering::Relaxed) {
+        File::open("/dev/random")?.read_exact(&mut [0])?;
+        WAS_SEEDED.store(true, Ordering::Relaxed);
+    }
+    File::open("/dev/urandom")?.read_exact(buf)
 }
 
 #[cfg(test)]

@@ -1,8 +1,6 @@
 //! Sources of random bytes.
 
 use super::{Algorithm, Error, Result};
-#[cfg(feature = "raf")]
-use std::io::Read;
 use std::io::{self, ErrorKind};
 
 /// A source of random bytes, for nonces and ids.
@@ -25,19 +23,16 @@ pub(super) fn checked_nonce<A: Algorithm>(nonce: A::Nonce) -> Result<A::Nonce> {
     Ok(nonce)
 }
 
-/// The system's source of random bytes: `/dev/urandom`, once it was seeded.
+/// The system's source of random bytes: `/dev/urandom`, once it was seeded. It is opened anew each time, since a fault of the
+/// program might give the descriptor to another file.
 #[cfg(feature = "raf")]
 #[derive(Debug, Default)]
-pub struct OsRng(Option<std::fs::File>);
+pub struct OsRng;
 
 #[cfg(feature = "raf")]
 impl RafRng for OsRng {
     fn fill(&mut self, buf: &mut [u8]) -> Result<()> {
-        let file = match &mut self.0 {
-            Some(file) => file,
-            none => none.insert(crate::random::open()?),
-        };
-        Ok(file.read_exact(buf)?)
+        Ok(crate::fill_random(buf)?)
     }
 }
 

@@ -118,13 +118,14 @@ fn each_way_to_create_a_file() {
     assert!(is_written(over().create(io, &KEY)));
 }
 
-/// The system's bytes differ from draw to draw, at each place. The chance of fewer values is below 2^-100.
+/// The system's bytes differ from draw to draw, at each place. The chance of fewer values is below 2^-100. Their source keeps no
+/// descriptor, which a fault of the program might give to another file.
 #[test]
 fn the_bytes_of_the_system() {
-    let mut rng = OsRng::default();
+    assert_eq!(size_of::<OsRng>(), 0);
     let mut draws = [[0; 32]; 64];
     for drawn in &mut draws {
-        rng.fill(drawn).unwrap();
+        OsRng.fill(drawn).unwrap();
     }
     for place in 0..32 {
         let values: HashSet<u8> = draws.iter().map(|drawn| drawn[place]).collect();
@@ -137,7 +138,7 @@ fn the_bytes_of_the_system() {
 fn the_bytes_of_another_process() {
     const VARIABLE: &str = "HUNKRAVY_SHOWS_RANDOM";
     let mut drawn = [0; 16];
-    OsRng::default().fill(&mut drawn).unwrap();
+    OsRng.fill(&mut drawn).unwrap();
     if std::env::var_os(VARIABLE).is_some() {
         eprintln!("{drawn:?}");
         return;
