@@ -43,7 +43,7 @@ CAUSES = {
 }
 
 
-@dataclasses.dataclass
+@dataclasses.dataclass(slots=True, repr=False)
 class Savepoint:
     """What a batch that fails goes back to: the changed pages, the length and the commits at its beginning."""
 
@@ -53,6 +53,8 @@ class Savepoint:
     counter: int
     # Whether one that it was in has ended before it.
     has_failed: bool = False
+    # Whether it has ended and failed. The next call of the file then goes back.
+    is_over: bool = False
 
 
 class RandomAccessError(ValueError):
@@ -322,7 +324,9 @@ class RandomAccessFile(variants.Secret, turns.Turns):
     @property
     def size(self) -> int:
         """The length of the contents in bytes."""
-        return self._size
+        with self._next_batch(), self._turn():
+            self._settle()
+            return self._size
 
     @property
     def closed(self) -> bool:
@@ -482,10 +486,8 @@ class RandomAccessFile(variants.Secret, turns.Turns):
     def discard(self) -> None:
         """Discards all changes since the last commit."""
         with self._next_batch(), self._turn():
-            self._discard()
-
-    def _discard(self) -> None:
-        self._changes, self._size, self._undo = {}, self._stored, None
+            self._settle()
+            self._changes, self._size, self._undo = {}, self._stored, None
 
     def _next_batch(self) -> ContextManager[Any]:
         """Returns the lock of batches, which the thread of an open one has.
@@ -510,18 +512,54 @@ class RandomAccessFile(variants.Secret, turns.Turns):
         return _native.Batch(self)
 
     def _begin_batch(self) -> Savepoint:
-        if self._batch is None:
-            self.commit()
         with self._turn():
             self._check()
+            if self._batch is None:
+                self._commit()
             own = Savepoint(self._batch, dict(self._changes), self._size, self._counter)
         return own
 
     def _end_batch(self, own: Savepoint) -> None:
-        if self._batch is not own or own.has_failed:
-            raise RuntimeError("a batch in this one has not ended, or the one that it was in has")
-        if own.outer is None:
-            self.commit()
+        with self._turn():
+            self._check()
+            if self._batch is not own or own.has_failed:
+                raise RuntimeError("a batch in this one has not ended, or the one that it was in has")
+            if own.outer is None:
+                self._commit()
+            self._batch = own.outer
+
+    def _settle(self) -> None:
+        """Takes out the batches that have ended and failed, and goes back. After an exception the next call does the rest."""
+        inner: list[Savepoint] = []
+        batch = self._batch
+        while batch is not None:
+            if batch.is_over:
+                self._go_back(batch, inner)
+            else:
+                inner.append(batch)
+            batch = batch.outer
+
+    def _go_back(self, failed: Savepoint, inner: list[Savepoint]) -> None:
+        """Takes out a batch, and goes back to its beginning, or to the last commit, if that was in it.
+
+        Those in it that have not ended, from the innermost one on, fail too, and then go back as far.
+        """
+        is_whole = failed.counter == self._counter
+        changes, size = (failed.changes, failed.size) if is_whole else ({}, self._stored)
+        for batch in inner:
+            batch.changes, batch.size, batch.counter, batch.has_failed = dict(changes), size, self._counter, True
+        self._changes, self._size, self._undo = changes, size, None
+        if inner:
+            inner[-1].outer = failed.outer
+        else:
+            self._batch = failed.outer
+
+    def _is_in_batch(self) -> bool:
+        """Whether a batch has not ended, also one of another thread."""
+        batch = self._batch
+        while batch is not None and batch.is_over:
+            batch = batch.outer
+        return batch is not None
 
     def _writes(self) -> list[tuple[int, bytes]]:
         """Returns the writes of a commit: the old header, the changed pages, and the next header."""
@@ -622,6 +660,7 @@ class RandomAccessFile(variants.Secret, turns.Turns):
             raise ValueError("I/O operation on closed file")
         if self._process != process():
             raise RandomAccessError("locked")
+        self._settle()
         if self._is_broken:
             raise RandomAccessError("broken")
         self._take_back()
@@ -750,5 +789,5 @@ class RandomAccessStream(RawFile):
 
     def flush(self) -> None:
         """Commits, unless in a batch."""
-        if not self.closed and not self._file.closed and self._file._batch is None:
+        if not self.closed and not self._file.closed and not self._file._is_in_batch():
             self._file.commit()

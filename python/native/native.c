@@ -971,8 +971,9 @@ static PyMethodDef gate_methods[] = {
 
 typedef struct {
     PyObject_HEAD PyObject *file;
-    /* From its beginning to its end: what it goes back to if it fails, the lock of batches, and the thread that has it. */
-    PyObject *savepoint;
+    /* From its beginning to its end: what it goes back to if it fails, the name of the attribute of that which says so, the lock
+     * of batches, and the thread that has it. */
+    PyObject *savepoint, *is_over;
     Gate *gate;
     uint64_t thread;
 } Batch;
@@ -991,112 +992,22 @@ static PyObject *batch_new(PyTypeObject *type, PyObject *arguments, PyObject *na
     return (PyObject *)self;
 }
 
-/* Gives an object an attribute, if there is a value, which is dropped. */
-static void set(PyObject *object, const char *name, PyObject *value)
-{
-    if (value != NULL) {
-        PyObject_SetAttrString(object, name, value);
-        Py_DECREF(value);
-    }
-}
-
-/* Returns the batch that the one at a savepoint is in, or at a file the innermost one. Drops what was given. */
-static PyObject *next_of(PyObject *object, const char *name)
-{
-    PyObject *next = PyObject_GetAttrString(object, name);
-    Py_DECREF(object);
-    return next;
-}
-
-/* Returns whether it has not ended, nor has one that it is in. */
-static bool is_open(const Batch *self)
-{
-    PyObject *at = next_of(Py_NewRef(self->file), "_batch");
-    while (at != NULL && at != Py_None && at != self->savepoint) {
-        at = next_of(at, "outer");
-    }
-    Py_XDECREF(at);
-    return at == self->savepoint;
-}
-
-/* Takes the changes since its beginning back, or those since the last commit, if that was in it. */
-static void go_back(const Batch *self)
-{
-    PyObject *then = PyObject_GetAttrString(self->savepoint, "counter");
-    PyObject *now = PyObject_GetAttrString(self->file, "_counter");
-    if (PyObject_RichCompareBool(then, now, Py_EQ) == 1) {
-        set(self->file, "_changes", PyObject_GetAttrString(self->savepoint, "changes"));
-        set(self->file, "_size", PyObject_GetAttrString(self->savepoint, "size"));
-    } else {
-        set(self->file, "_changes", PyDict_New());
-        set(self->file, "_size", PyObject_GetAttrString(self->file, "_stored"));
-    }
-    set(self->file, "_undo", Py_NewRef(Py_None));
-    Py_XDECREF(then);
-    Py_XDECREF(now);
-}
-
-/* Takes it out of those that are open. One in it that has not ended fails too, and then goes back as far. */
-static void remove_batch(const Batch *self)
-{
-    PyObject *inner = Py_NewRef(self->file), *at = next_of(Py_NewRef(self->file), "_batch");
-    while (at != NULL && at != self->savepoint) {
-        PyObject *changes = PyObject_GetAttrString(self->savepoint, "changes");
-        set(at, "changes", changes == NULL ? NULL : PyDict_Copy(changes));
-        Py_XDECREF(changes);
-        set(at, "counter", PyObject_GetAttrString(self->savepoint, "counter"));
-        set(at, "size", PyObject_GetAttrString(self->savepoint, "size"));
-        set(at, "has_failed", Py_NewRef(Py_True));
-        Py_DECREF(inner);
-        inner = Py_NewRef(at);
-        at = next_of(at, "outer");
-    }
-    set(inner, inner == self->file ? "_batch" : "outer", PyObject_GetAttrString(self->savepoint, "outer"));
-    Py_DECREF(inner);
-    Py_XDECREF(at);
-}
-
-/* Whether this is not the thread that began it. */
-static bool is_elsewhere(const Batch *self)
-{
-    return self->thread != this_thread();
-}
-
 /*
- * Ends it, and goes back unless it is whole. Keeps the exception that there may be. In another thread it waits for the call
- * that its own thread is in. If the interpreter ends and that never returns, it stays open.
+ * Ends it. If it has failed, the next call of the file goes back: a call may be running now, in this thread or in its own. This
+ * needs no memory, waits for nothing, and keeps the exception that there may be.
  */
 static void end(Batch *self, bool is_whole)
 {
-    PyObject *kind, *error, *traceback, *turn = NULL;
+    PyObject *kind, *error, *traceback;
     PyErr_Fetch(&kind, &error, &traceback);
-    if (is_elsewhere(self)) {
-        PyObject *taken = NULL;
-        while (taken == NULL && (turn = PyObject_CallMethod(self->file, "_turn", NULL)) != NULL) {
-            taken = PyObject_CallMethod(turn, "__enter__", NULL);
-            PyErr_Clear();
-            Py_DECREF(taken == NULL ? turn : taken);
-        }
-        if (turn == NULL) {
-            PyErr_Restore(kind, error, traceback);
-            return;
-        }
+    if (self->savepoint != NULL && !is_whole && PyObject_SetAttr(self->savepoint, self->is_over, Py_True) < 0) {
+        PyErr_Clear();
     }
-    if (self->savepoint != NULL && is_open(self)) {
-        if (!is_whole) {
-            go_back(self);
-        }
-        remove_batch(self);
-    }
-    PyErr_Clear();
     Py_CLEAR(self->savepoint);
+    Py_CLEAR(self->is_over);
     if (self->gate != NULL) {
         release_gate(self->gate);
         Py_CLEAR(self->gate);
-    }
-    if (turn != NULL) {
-        Py_XDECREF(PyObject_CallMethod(turn, "__exit__", "OOO", Py_None, Py_None, Py_None));
-        Py_DECREF(turn);
     }
     PyErr_Restore(kind, error, traceback);
 }
@@ -1124,12 +1035,12 @@ static PyObject *batch_enter(PyObject *object, PyObject *none)
         Py_DECREF(gate);
     }
     self->thread = this_thread();
-    self->savepoint = PyObject_CallMethod(self->file, "_begin_batch", NULL);
-    if (self->savepoint == NULL) {
+    self->is_over = PyUnicode_InternFromString("is_over");
+    self->savepoint = self->is_over == NULL ? NULL : PyObject_CallMethod(self->file, "_begin_batch", NULL);
+    if (self->savepoint == NULL || PyObject_SetAttrString(self->file, "_batch", self->savepoint) < 0) {
         end(self, false);
         return NULL;
     }
-    set(self->file, "_batch", Py_NewRef(self->savepoint));
     return Py_NewRef(self->file);
 }
 
@@ -1147,7 +1058,7 @@ static PyObject *batch_exit(PyObject *object, PyObject *given)
     PyObject *result = NULL;
     if (kind != Py_None) {
         result = Py_NewRef(Py_None);
-    } else if (is_elsewhere(self)) {
+    } else if (self->thread != this_thread()) {
         PyErr_SetString(PyExc_RuntimeError, "a batch ends in the thread in which it began");
     } else {
         result = PyObject_CallMethod(self->file, "_end_batch", "(O)", self->savepoint);
@@ -1168,14 +1079,10 @@ static int batch_traverse(PyObject *object, visitproc visit, void *arg)
 /* One that a signal has left before its block, or that nobody has ended, fails. */
 static void batch_free(PyObject *object)
 {
-    Batch *self = (Batch *)object;
     PyTypeObject *type = Py_TYPE(object);
     PyObject_GC_UnTrack(object);
-    if (self->savepoint != NULL) {
-        end(self, false);
-    }
-    Py_XDECREF(self->savepoint);
-    Py_XDECREF(self->file);
+    end((Batch *)object, false);
+    Py_XDECREF(((Batch *)object)->file);
     PyObject_GC_Del(object);
     Py_DECREF(type);
 }

@@ -398,7 +398,7 @@ class Files(unittest.TestCase):
                 for place in places:
                     file.write_at(place, b"before")
             was_interrupted = interrupted_at(number, lambda: change(file), "_turns.py", "_random_access.py")
-            self.assertIsNone(file._batch)
+            self.assertFalse(file._is_in_batch())
             with contextlib.suppress(RandomAccessError), file.batch():
                 pass
             file.close()
@@ -525,6 +525,49 @@ class Files(unittest.TestCase):
             gc.collect()
             self.assertEqual(contents(self.path), b"")
 
+    def test_a_batch_that_ends_without_memory(self) -> None:
+        try:
+            import _testcapi
+        except ImportError:
+            self.skipTest("this Python has no _testcapi")
+        error = KeyError("of a block")
+        for number in range(20):
+            path = self.path.with_name(str(number))
+            with RandomAccessFile.create(path, KEY) as file:
+                with file.batch():
+                    file.write_at(0, b"outer")
+                    inner = file.batch()
+                    inner.__enter__()
+                    file.write_at(0, b"inner")
+                    _testcapi.set_nomemory(number, number + 1)
+                    try:
+                        inner.__exit__(KeyError, error, None)
+                    except MemoryError:
+                        pass
+                    del inner
+                    _testcapi.remove_mem_hooks()
+            self.assertEqual(contents(path), b"outer", number)
+
+    def test_a_batch_that_is_freed_in_a_call(self) -> None:
+        def change() -> Generator[None, None, None]:
+            with file.batch():
+                file.write_at(0, b"half")
+                yield
+
+        def freed(number: int) -> bytes:
+            changes.clear()
+            return page(number)
+
+        with RandomAccessFile.create(self.path, KEY, page_size=PAGE) as file:
+            file.write_at(0, BEFORE)
+            for call in (lambda: file.write_at(10, b"a" * 2 * PAGE), lambda: file.truncate(5000)):
+                changes, page = [change()], file._page
+                next(changes[0])
+                with mock.patch.object(file, "_page", freed):
+                    call()
+                self.assertEqual(file.read_at(0, 5000), BEFORE)
+        self.assertEqual(contents(self.path), BEFORE)
+
     def test_a_batch_that_another_thread_ends(self) -> None:
         def change() -> Generator[None, None, None]:
             with file.batch():
@@ -544,6 +587,7 @@ class Files(unittest.TestCase):
                 changes.append(file.batch())
                 changes[1].__enter__()
                 other.submit(changes.__delitem__, 1).result()
+                self.assertEqual(file.size, 4)
                 self.assertIs(file._batch, outer)
                 other.submit(changes.clear).result()
                 self.assertEqual(other.submit(file.read_at, 0, 9).result(), b"")
