@@ -175,6 +175,14 @@ fn the_end_of_a_batch_in_a_child() {
     assert_eq!(bytes(&folder), before);
 }
 
+/// Does something in a child, or in a child of a child, and so on. Returns whether it returned true there.
+fn is_so_after_forks(forks: u32, done: &dyn Fn() -> bool) -> bool {
+    match forks {
+        0 => done(),
+        _ => is_so_in_a_child(|| is_so_after_forks(forks - 1, done)),
+    }
+}
+
 /// A child makes batches in files of its own, also if another thread was at the list of batches during the fork.
 #[test]
 fn a_batch_of_a_child_alone() {
@@ -186,13 +194,14 @@ fn a_batch_of_a_child_alone() {
                 file.batch(|_| Ok::<_, Error>(())).unwrap();
             }
         });
-        let is_made = |_| {
+        let is_made = || {
             // It ends by a signal if it waits for ever.
             alarm(100);
             let (mut file, _folder, _) = file();
             file.batch(|file| file.write(b"x", 0)).is_ok()
         };
-        let are_made = (0..200).all(|number| is_so_in_a_child(|| is_made(number)));
+        let mut generations = [1; 200].into_iter().chain([16; 40]);
+        let are_made = generations.all(|forks| is_so_after_forks(forks, &is_made));
         is_over.store(true, SeqCst);
         assert!(are_made);
     });

@@ -3,7 +3,10 @@
 use super::changes::Changes;
 use super::system::forks;
 use super::{Algorithm, Error, Raf, RafIo, RafRng};
+use crate::memory::with_room;
 use alloc::vec::Vec;
+use core::ptr;
+use core::sync::atomic::{AtomicPtr, Ordering::SeqCst};
 use std::io::ErrorKind;
 use std::sync::{Mutex, MutexGuard, PoisonError};
 
@@ -14,25 +17,44 @@ struct Batches {
     open: Vec<u64>,
 }
 
-impl Batches {
-    const fn none() -> Mutex<Self> {
-        let open = Vec::new();
-        Mutex::new(Batches { last: 0, open })
-    }
+/// The batches of a process. One that was forked makes a list of its own: a thread of the other may have held that one's, which
+/// then is locked for ever in the child. A child has no use for it, since it cannot use the files of the other.
+struct List {
+    forks: u32,
+    batches: Mutex<Batches>,
 }
 
-/// A process that was forked has another list than the one that forked it: a thread of that one may have held its list, which
-/// then is locked for ever in the child. A child has no use for it, since it cannot use the files of the other.
-static BATCHES: [Mutex<Batches>; 16] = [const { Batches::none() }; 16];
+static LIST: AtomicPtr<List> = AtomicPtr::new(ptr::null_mut());
 
-fn batches() -> MutexGuard<'static, Batches> {
-    let list = &BATCHES[forks() as usize % BATCHES.len()];
-    list.lock().unwrap_or_else(PoisonError::into_inner)
+/// Returns the batches of this process, if one was begun in it.
+fn batches() -> Option<MutexGuard<'static, Batches>> {
+    // SAFETY: a list is never freed.
+    let list = unsafe { LIST.load(SeqCst).as_ref() }?;
+    let is_own = list.forks == forks();
+    is_own.then(|| list.batches.lock().unwrap_or_else(PoisonError::into_inner))
+}
+
+/// Makes the list of this process, unless another thread does.
+fn make_list() -> Result<(), Error> {
+    let old = LIST.load(SeqCst);
+    let mut list = with_room(1)?;
+    let (last, open) = (0, Vec::new());
+    list.push(List {
+        forks: forks(),
+        batches: Mutex::new(Batches { last, open }),
+    });
+    let _ = LIST.compare_exchange(old, list.leak().as_mut_ptr(), SeqCst, SeqCst);
+    Ok(())
 }
 
 /// Begins a batch, and returns its number.
 fn begin() -> Result<u64, Error> {
-    let mut batches = batches();
+    let mut batches = loop {
+        match batches() {
+            Some(batches) => break batches,
+            None => make_list()?,
+        }
+    };
     let reserved = batches.open.try_reserve(1);
     reserved.map_err(|_| Error::Io(ErrorKind::OutOfMemory.into()))?;
     batches.last += 1;
@@ -105,8 +127,8 @@ impl<A: Algorithm, I: RafIo, R: RafRng, J: RafIo> Drop for Batch<'_, A, I, R, J>
             return;
         }
         let savepoint = self.savepoint.take();
-        if savepoint.is_none() {
-            batches().open.retain(|open| *open != self.number);
+        if let (None, Some(mut batches)) = (&savepoint, batches()) {
+            batches.open.retain(|open| *open != self.number);
         }
         if self.file.batch == self.number && !self.is_complete {
             self.file.go_back(savepoint);
@@ -157,7 +179,8 @@ impl<A: Algorithm, I: RafIo, R: RafRng, J: RafIo> Raf<A, I, R, J> {
 
     /// Returns whether the file is in a batch that is being made.
     pub(super) fn is_in_batch(&self) -> bool {
-        self.batch != 0 && self.owner.seems_this() && batches().open.contains(&self.batch)
+        let is_open = || batches().is_some_and(|batches| batches.open.contains(&self.batch));
+        self.batch != 0 && self.owner.seems_this() && is_open()
     }
 
     /// Discards the changes since a savepoint, or all since the last commit.

@@ -261,6 +261,9 @@ impl RafIo for FileIo {
             return Err(error);
         }
         self.is_locked = true;
+        // Nor is it new if another program has written to it, and closed it.
+        let found = self.file.metadata();
+        self.is_unfinished &= found.is_ok_and(|found| is_empty(&found));
         self.check_name()
     }
 
@@ -703,6 +706,17 @@ pub mod tests {
         assert!(journal.check_path().is_err());
         assert!(sync_folder(Path::new("/proc/file")).is_err());
         assert!(sync_folder(Path::new("file")).is_ok());
+    }
+
+    /// A new file in which another program has written before it was locked is not removed.
+    #[test]
+    fn a_new_file_of_another_program() {
+        let Paths(path, _) = &Paths::new("taken");
+        let mut io = FileIo::create_new(path).unwrap();
+        fs::write(path, b"precious").unwrap();
+        io.lock().unwrap();
+        drop(io);
+        assert_eq!(fs::read(path).unwrap(), b"precious");
     }
 
     /// A process keeps its lock when a copy of it in another process is dropped.
