@@ -311,8 +311,11 @@ class RandomAccessFile(variants.Secret, turns.Turns):
                 raise RandomAccessError("header")
             fcntl.flock(self._file, fcntl.LOCK_EX | fcntl.LOCK_NB)
             self._check_name()
+            if is_new and os.fstat(self._file).st_size:
+                raise FileExistsError(errno.EEXIST, os.strerror(errno.EEXIST), self._path)
         except BaseException as error:
-            if is_new:
+            # Before it is locked another program may take it, and write to it.
+            if is_new and not isinstance(error, BlockingIOError) and os.fstat(self._file).st_size == 0:
                 self._remove_new()
             self._drop()
             if isinstance(error, BlockingIOError):

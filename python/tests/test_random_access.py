@@ -7,6 +7,7 @@ import errno
 import fcntl
 import functools
 import gc
+import importlib.util
 import io
 import itertools
 import os
@@ -432,6 +433,23 @@ class Files(unittest.TestCase):
             self.assertEqual(self.path.read_bytes(), b"precious")
             self.path.unlink()
 
+    def test_a_creation_whose_file_another_program_takes(self) -> None:
+        def written(*arguments: Any) -> Any:
+            self.path.write_bytes(b"precious")
+            return flock(*arguments)
+
+        def locked(descriptor: int, operation: int) -> None:
+            with self.path.open() as other:
+                flock(other, fcntl.LOCK_EX)
+                flock(descriptor, operation)
+
+        flock = fcntl.flock
+        for replacement, error in ((written, FileExistsError), (locked, RandomAccessError)):
+            with mock.patch.object(fcntl, "flock", replacement), self.assertRaises(error):
+                RandomAccessFile.create(self.path, KEY)
+            self.assertEqual(self.path.read_bytes(), b"precious" if replacement is written else b"")
+            self.path.unlink()
+
     def test_a_journal_that_is_no_file(self) -> None:
         RandomAccessFile.create(self.path, KEY).close()
         journal = self.path.with_name(self.path.name + ".journal")
@@ -526,10 +544,9 @@ class Files(unittest.TestCase):
             self.assertEqual(contents(self.path), b"")
 
     def test_a_batch_that_ends_without_memory(self) -> None:
-        try:
-            import _testcapi
-        except ImportError:
+        if importlib.util.find_spec("_testcapi") is None:
             self.skipTest("this Python has no _testcapi")
+        allocations: Any = importlib.import_module("_testcapi")
         error = KeyError("of a block")
         for number in range(20):
             path = self.path.with_name(str(number))
@@ -539,13 +556,13 @@ class Files(unittest.TestCase):
                     inner = file.batch()
                     inner.__enter__()
                     file.write_at(0, b"inner")
-                    _testcapi.set_nomemory(number, number + 1)
+                    allocations.set_nomemory(number, number + 1)
                     try:
                         inner.__exit__(KeyError, error, None)
                     except MemoryError:
                         pass
                     del inner
-                    _testcapi.remove_mem_hooks()
+                    allocations.remove_mem_hooks()
             self.assertEqual(contents(path), b"outer", number)
 
     def test_a_batch_that_is_freed_in_a_call(self) -> None:
@@ -560,7 +577,8 @@ class Files(unittest.TestCase):
 
         with RandomAccessFile.create(self.path, KEY, page_size=PAGE) as file:
             file.write_at(0, BEFORE)
-            for call in (lambda: file.write_at(10, b"a" * 2 * PAGE), lambda: file.truncate(5000)):
+            calls: list[Callable[[], object]] = [lambda: file.write_at(10, b"a" * 2 * PAGE), lambda: file.truncate(5000)]
+            for call in calls:
                 changes, page = [change()], file._page
                 next(changes[0])
                 with mock.patch.object(file, "_page", freed):
@@ -716,10 +734,6 @@ class Files(unittest.TestCase):
         with mock.patch.object(fcntl, "flock") as lock:
             self.assertCause("header", RandomAccessFile, self.path, KEY)
         lock.assert_called_once_with(mock.ANY, fcntl.LOCK_UN)
-        self.path.unlink()
-        with mock.patch.object(fcntl, "flock", side_effect=[BlockingIOError, None]):
-            self.assertCause("locked", RandomAccessFile.create, self.path, KEY)
-        self.assertFalse(self.path.exists())
 
     def test_a_call_inside_another(self) -> None:
         class Entered(dict[int, bytes]):
