@@ -57,6 +57,13 @@ REJECTED = {
         "seal -k key small <(:)",
         "open --force -k key sealed <(:)",
     ),
+    "is where standard output or standard error leads": (
+        "open --force -k key sealed /dev/stdout >> log",
+        "seal -k key small log >> log",
+        "rekey --force -k key -n other sealed /proc/self/fd/1 1<> log",
+        "keygen /dev/stdout >> log",
+        "seal --force -k key small /dev/stderr 2>> log; status=$?; tail -n 1 log >&2; sed -i \\$d log; exit $status",
+    ),
     # Descriptors that the program opens itself.
     "became a device or a pipe": ("seal -k key /dev/null /dev/fd/3 3>&-", "seal -k key /dev/null /dev/stdout >&-"),
     "/dev/stdout": ("open --force -k key --from 5 sealed /dev/stdout >&-",),
@@ -110,6 +117,7 @@ class Outputs(Scene):
         with socket.socket(socket.AF_UNIX) as one:
             one.bind("socket")
         shutil.copy("key", "copy")
+        write("log", b"a line\n")
         before = snapshot()
         for reason, commands in REJECTED.items():
             for command in commands:

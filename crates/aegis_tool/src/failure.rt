@@ -68,6 +68,8 @@ pub enum Failure<'a> {
     SameFile(Name<'a>),
     #[error("{0} is a pipe that only this run reads, so what is written would be lost: give another OUT")]
     OwnPipe(Name<'a>),
+    #[error("{0} is where standard output or standard error leads: give another OUT, or - for standard output")]
+    Redirected(Name<'a>),
     #[error("{0} is the key file {1}: writing it would destroy the key")]
     OverKey(Name<'a>, Name<'a>),
     #[error("{0} is the key file {1}: the input must be another file")]

@@ -225,6 +225,15 @@ fn is_only_read(rt: &HostRuntime, name: &str) -> bool {
     }
 }
 
+// Whether standard output or standard error leads to this file: it may be open to append, and OUT would replace it.
+fn is_redirected_to(rt: &HostRuntime, found: Found) -> bool {
+    let Found::File(identity) = found else {
+        return false;
+    };
+    let is_it = |name| matches!(Identity::at(rt, name), Ok(Some(own)) if own == identity);
+    is_it(STANDARD_OUTPUT) || is_it(STANDARD_ERROR)
+}
+
 // Whether a name can be that of a new file.
 fn names_a_file(name: &str) -> bool {
     !name.is_empty() && !name.ends_with('/')
@@ -302,6 +311,9 @@ pub fn open_target<'a>(
     match find(rt, name)? {
         Found::Stream => Ok(Target::Direct(open_stream(rt, name)?)),
         found => {
+            if is_redirected_to(rt, found) {
+                return Err(Failure::Redirected(Name(name)));
+            }
             let target = target_of(rt, name, found)?;
             if matches!(found, Found::File(_)) && !replace {
                 return Err(Failure::Exists(Name(name)));
@@ -445,7 +457,7 @@ impl<'a> Part<'a> {
 
     fn failed(&self, error: io::Error) -> Failure<'a> {
         match error.kind() {
-            ErrorKind::AlreadyExists => Failure::Exists(self.output),
+            ErrorKind::AlreadyExists if !self.replace => Failure::Exists(self.output),
             _ => Failure::Output(self.output, error),
         }
     }

@@ -123,9 +123,11 @@ fn carry_out<'a, R: Read + Drop, W: Write + Drop>(
         (_, PartError::File(error)) => { Failure::of_files(error, paths.input, paths.output, seen) }
         (_, error) => Failure::of_part(error, paths.input, paths.output, seen),
     };
+    // Of the write that has failed a part may be there.
+    let incomplete = output.written > 0 || matches!(failure, Failure::Output(..));
     Err(Stopped {
         failure,
-        incomplete: output.written > 0,
+        incomplete,
     })
 }
 
