@@ -222,15 +222,17 @@ static int commit(const struct file *file, struct write *writes, size_t count, u
     return result && fsync(file->fd) == 0 && emptied(file->journal);
 }
 
-/* Opens and locks the files. */
-static int begin(struct file *file, const char *key_path, const char *path)
+/* Opens and locks the files. With O_CREAT in `flags` it makes FILE if there is none. */
+static int begin(struct file *file, const char *key_path, const char *path, int flags)
 {
     struct flock whole = {.l_type = F_WRLCK, .l_whence = SEEK_SET};
     char real[PATH_BYTES], folder[PATH_BYTES];
-    file->fd = open(path, O_RDWR | O_CREAT, 0600);
+    if (!get_key(open(key_path, O_RDONLY), file->key)) {
+        return 0;
+    }
+    file->fd = open(path, O_RDWR | flags, 0600);
     /* The journal of a file is beside it, and not beside a link to it. */
-    if (!get_key(open(key_path, O_RDONLY), file->key) || realpath(path, real) == NULL ||
-        snprintf(file->journal_path, PATH_BYTES, "%s.journal", real) >= PATH_BYTES ||
+    if (realpath(path, real) == NULL || snprintf(file->journal_path, PATH_BYTES, "%s.journal", real) >= PATH_BYTES ||
         snprintf(file->copy_path, PATH_BYTES, "%s.jrncopy", real) >= PATH_BYTES) {
         return 0;
     }
@@ -256,7 +258,7 @@ int main(int count, char **arguments)
         return count > 2 ? EXIT_FAILURE : EXIT_SUCCESS;
     }
     number = strtoull(arguments[3], &rest, 10);
-    if (rest == arguments[3] || *rest != 0 || !begin(&file, arguments[1], arguments[2]) ||
+    if (rest == arguments[3] || *rest != 0 || !begin(&file, arguments[1], arguments[2], count == 5 ? O_CREAT : 0) ||
         number >= file.length / SIZE + (count == 5)) {
         fputs("file: check KEYFILE, FILE and NUMBER\n", stderr);
     } else if (count == 5) {

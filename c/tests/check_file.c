@@ -187,7 +187,7 @@ static int set_texts(char letter)
     static uint8_t pages[TEXTS][PAGE_BYTES];
     struct file file = {.fd = -1};
     struct write writes[TEXTS + 2];
-    int result = begin(&file, key_path, path);
+    int result = begin(&file, key_path, path, O_CREAT);
 
     for (uint64_t i = 0; result && i < TEXTS; i++) {
         memset(pages[i] + NONCE_BYTES, letter, SIZE);
@@ -206,7 +206,7 @@ static int letter_of_texts(char unused)
     int letter = 0;
 
     (void)unused;
-    HOLDS(begin(&file, key_path, path) && file.length == TEXTS * SIZE);
+    HOLDS(begin(&file, key_path, path, O_CREAT) && file.length == TEXTS * SIZE);
     for (uint64_t i = 0; i < TEXTS; i++) {
         HOLDS(read_page(&file, page, i) && all_are(page + NONCE_BYTES, SIZE, page[NONCE_BYTES]));
         HOLDS(i == 0 || letter == page[NONCE_BYTES]);
@@ -220,7 +220,7 @@ static int letter_of_texts(char unused)
 static int open_texts(char unused)
 {
     struct file file = {.fd = -1};
-    int result = begin(&file, key_path, path);
+    int result = begin(&file, key_path, path, O_CREAT);
 
     (void)unused;
     end(&file);
@@ -325,12 +325,13 @@ static void check_names(void)
     struct file file = {.fd = -1};
     uint8_t key[KEY_BYTES];
 
-    HOLDS(truncate(key_path, 65) == 0 && !begin(&file, key_path, path) && truncate(key_path, KEY_BYTES) == 0);
-    HOLDS(begin(&file, key_path, path) && unlink(journal_path) == 0);
-    HOLDS(symlink(key_path, journal_path) == 0 && !begin(&file, key_path, path) && unlink(journal_path) == 0);
+    HOLDS(truncate(key_path, 65) == 0 && !begin(&file, key_path, path, O_CREAT) && truncate(key_path, KEY_BYTES) == 0);
+    HOLDS(begin(&file, key_path, path, O_CREAT) && unlink(journal_path) == 0);
+    HOLDS(symlink(key_path, journal_path) == 0 && !begin(&file, key_path, path, O_CREAT) && unlink(journal_path) == 0);
     HOLDS(get_key(open(key_path, O_RDONLY), key));
-    HOLDS(link(path, copy_path) == 0 && !begin(&file, key_path, path) && unlink(copy_path) == 0);
-    HOLDS(link(key_path, journal_path) == 0 && !begin(&file, key_path, path) && unlink(journal_path) == 0);
+    HOLDS(!begin(&file, key_path, copy_path, 0) && access(copy_path, F_OK) != 0);
+    HOLDS(link(path, copy_path) == 0 && !begin(&file, key_path, path, O_CREAT) && unlink(copy_path) == 0);
+    HOLDS(link(key_path, journal_path) == 0 && !begin(&file, key_path, path, O_CREAT) && unlink(journal_path) == 0);
     HOLDS(get_key(open(key_path, O_RDONLY), key));
     HOLDS(unlink(path) == 0);
 }
@@ -386,7 +387,7 @@ static void run_batches(const char *name, int is_written)
     struct file file = {.fd = -1};
     uint64_t number;
 
-    HOLDS(begin(&file, key_path, name));
+    HOLDS(begin(&file, key_path, name, O_CREAT));
     HOLDS(unlink(key_path) == 0 && rmdir(dirname(key_path)) == 0);
     if (file.length == 0) {
         write_rows(&file, 0);
