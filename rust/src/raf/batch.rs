@@ -151,9 +151,9 @@ impl<A: Algorithm, I: RafIo, R: RafRng, J: RafIo> Raf<A, I, R, J> {
     /// The error of `changes`, or one of [`commit`](Raf::commit). Then the contents are those before the batch, unless the file
     /// is broken.
     ///
-    /// [`Error::Moved`] if `changes` has put another `Raf` in the place of this one, for example with [`core::mem::swap`]. Then the
-    /// batch neither commits nor discards. The changes of this one stay in it, and dropping it does not commit them. Those of the
-    /// other one are outside the batch, and dropping that one commits them.
+    /// If `changes` has put another `Raf` in the place of this one, for example with [`core::mem::swap`], the batch neither commits
+    /// nor discards, and after `Ok` the error is [`Error::Moved`]. The changes of this one stay in it: dropping it does not commit
+    /// them, and a later commit does. Those of the other one are outside the batch, and dropping that one commits them.
     ///
     /// ```
     /// # use hunkravy::raf::{Aegis256, Error, Raf};
