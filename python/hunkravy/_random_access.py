@@ -741,7 +741,7 @@ def natural(number: int) -> int:
     return number
 
 
-class RandomAccessStream(RawFile):
+class RandomAccessStream(variants.Secret, RawFile):
     """A raw file object over a `RandomAccessFile`."""
 
     def __init__(self, file: RandomAccessFile) -> None:

@@ -2,6 +2,7 @@
 
 import concurrent.futures
 import contextlib
+import copy
 import dis
 import errno
 import fcntl
@@ -913,7 +914,8 @@ class Files(unittest.TestCase):
 
     def test_secrets_are_not_copied(self) -> None:
         with RandomAccessFile.create(self.path, KEY) as file:
-            self.assertRaises(TypeError, file.__reduce_ex__, 2)
+            for each in (file, file.open_stream()):
+                self.assertRaises(TypeError, copy.copy, each)
 
 
 def stream_end(file: Any) -> Any:
