@@ -1,7 +1,7 @@
 //! How much memory a file takes, and what is left in memory that was freed, as an allocator sees it. Both are one test,
 //! since they count all of the program.
 
-use hunkravy::files::{SealedReader, SealedWriter};
+use hunkravy::files::{SealedReader, SealedWriter, read_key};
 use hunkravy::raf::{Aegis256, Raf, RafBuilder};
 use hunkravy::records::Sealer;
 use std::alloc::{GlobalAlloc, Layout, System};
@@ -33,6 +33,8 @@ const LIMIT: usize = 1 << 20;
 const READ_BYTES: usize = 64 * 1024 / PAGE_BYTES * PAGE_BYTES;
 /// A text is of this byte, in which a freed page is recognized.
 const MARK: u8 = 0xc7;
+/// A part of a key file with a key of this byte.
+const DIGITS: [u8; 8] = *b"c7c7c7c7";
 
 static NOW: AtomicUsize = AtomicUsize::new(0);
 static MOST: AtomicUsize = AtomicUsize::new(0);
@@ -55,7 +57,8 @@ unsafe impl GlobalAlloc for Counting {
             // SAFETY: it is not freed yet, and each of its bytes was written.
             let bytes = unsafe { slice::from_raw_parts(place, layout.size()) };
             FREED.fetch_add(1, SeqCst);
-            let is_left = bytes.windows(8).any(|bytes| bytes == [MARK; 8]);
+            let is_mark = |bytes: &[u8]| bytes == [MARK; 8] || bytes == DIGITS;
+            let is_left = bytes.windows(8).any(is_mark);
             UNWIPED.fetch_add(usize::from(is_left), SeqCst);
         }
         // SAFETY: as above.
@@ -169,6 +172,15 @@ fn sealed_into_short_vectors() {
     assert_eq!(UNWIPED.load(SeqCst), 0);
 }
 
+/// Reads a key file: no memory that this frees holds its digits.
+fn key_file(path: &Path) {
+    fs::write(path, DIGITS.repeat(8)).unwrap();
+    LOOKS_AT_ALL.store(true, SeqCst);
+    let key = read_key(path).unwrap();
+    LOOKS_AT_ALL.store(false, SeqCst);
+    assert_eq!((key, UNWIPED.load(SeqCst)), ([MARK; 32], 0));
+}
+
 /// A reader of bytes that then returns counts of bytes which it does not write.
 struct Lies<'a>(&'a [u8]);
 
@@ -204,6 +216,7 @@ fn of_a_sealed_file(path: &Path) {
         assert!(most < RECORD_BYTES + 3 * count + 5_000, "{most} of {count}");
     }
     sealed_into_short_vectors();
+    key_file(path);
     longer_records();
     record_of_lies();
     fs::remove_file(path).unwrap();
