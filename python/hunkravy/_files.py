@@ -80,6 +80,11 @@ def bytes_of(view: memoryview) -> memoryview:
     return view.cast("B") if view.nbytes else memoryview(b"")
 
 
+def negative(position: int) -> OSError:
+    """Returns the error of a file for a seek to a negative position, which `zipfile` expects."""
+    return OSError(errno.EINVAL, f"negative position: {position}")
+
+
 class Sealed(variants.Secret, turns.Turns, RawFile):  # type: ignore[misc]
     """What readers and writers share: the file beneath, and turns of threads."""
 
@@ -151,16 +156,24 @@ class SealedWriter(Sealed):
         return self._length
 
     def write(self, data: _ReadableBuffer) -> int:
-        """Writes all of the data, and returns their length. After an exception the file cannot be completed."""
-        with self._turn():
-            self._check_open()
-            self._check_may_finish()
+        """Writes all of the data, and returns their length. After an exception the file cannot be completed.
+
+        Exception: one of a signal handler that came before any of the data were taken in.
+        """
+        try:
+            with self._turn():
+                self._check_open()
+                self._check_may_finish()
+                self._may_finish = False
+                with memoryview(data) as view, bytes_of(view) as contents:
+                    self._take_in(contents)
+                    count = len(contents)
+                self._may_finish = True
+        except BaseException:
+            # A signal may come at the end of the turn, and its caller would write the data again.
             self._may_finish = False
-            with memoryview(data) as view, bytes_of(view) as contents:
-                self._take_in(contents)
-                count = len(contents)
-            self._may_finish = True
-            return count
+            raise
+        return count
 
     def close(self) -> None:
         """Completes the file, or raises `OSError` if an earlier write failed.
@@ -337,7 +350,7 @@ class SealedReader(Sealed):
             self._position = position
             self._error = None
             if sought < 0:
-                raise ValueError(f"negative position {sought}")
+                raise negative(sought)
             return position
 
     def close(self) -> None:

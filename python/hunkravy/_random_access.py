@@ -13,7 +13,7 @@ from types import TracebackType
 from typing import TYPE_CHECKING, Any, ContextManager, Optional, Self, Union
 
 from . import _native, _turns as turns, _variants as variants
-from ._files import RawFile, bytes_of
+from ._files import RawFile, bytes_of, negative
 
 if TYPE_CHECKING:
     from _typeshed import ReadableBuffer as _ReadableBuffer, WriteableBuffer as _WriteableBuffer
@@ -741,7 +741,7 @@ def natural(number: int) -> int:
     return number
 
 
-class RandomAccessStream(variants.Secret, RawFile):
+class RandomAccessStream(variants.Secret, RawFile):  # type: ignore[misc]
     """A raw file object over a `RandomAccessFile`."""
 
     def __init__(self, file: RandomAccessFile) -> None:
@@ -762,8 +762,11 @@ class RandomAccessStream(variants.Secret, RawFile):
     def readinto(self, buffer: _WriteableBuffer) -> int:
         """Fills the buffer with the next bytes, and returns how many: fewer only at the end of the contents."""
         with memoryview(buffer) as view, bytes_of(view) as out:
+            if view.readonly:
+                raise TypeError("buffer must be writable")
             found = self._open_file().read_at(self._position, len(out))
-            out[: len(found)] = found
+            if found:
+                out[: len(found)] = found
         self._position += len(found)
         return len(found)
 
@@ -778,8 +781,11 @@ class RandomAccessStream(variants.Secret, RawFile):
         origin = {os.SEEK_SET: 0, os.SEEK_CUR: self._position, os.SEEK_END: self._open_file().size}.get(whence)
         if origin is None:
             raise ValueError(f"whence must be 0, 1 or 2, not {whence}")
-        self._position = natural(origin + operator.index(offset))
-        return self._position
+        position = origin + operator.index(offset)
+        if position < 0:
+            raise negative(position)
+        self._position = position
+        return position
 
     def tell(self) -> int:
         """Returns the position in the contents."""

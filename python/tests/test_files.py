@@ -369,6 +369,17 @@ class Writing(unittest.TestCase):
         self.assertEqual(SealedReader(io.BytesIO(file.file.getvalue()), KEY).read(), bytes(100_000))
         return False
 
+    def test_a_signal_at_the_end_of_a_write(self) -> None:
+        """An `io.BufferedWriter` would write the data again."""
+        turn = mock.MagicMock()
+        turn.return_value.__exit__.side_effect = KeyboardInterrupt
+        file = io.BytesIO()
+        writer = SealedWriter(file, KEY)
+        with mock.patch.object(writer, "_turn", turn), self.assertRaises(KeyboardInterrupt):
+            writer.write(b"once")
+        with self.assertRaisesRegex(OSError, "cannot be completed"):
+            writer.close()
+
     def test_a_file_that_does_not_block(self) -> None:
         file = Slow(most=1000, fails={4: None})
         writer = SealedWriter(cast(BinaryIO, file), KEY)
@@ -558,8 +569,10 @@ class Reading(unittest.TestCase):
             offset = numbers.randint(-6000, 6000) if whence else numbers.randint(0, 20_000)
             base = (0, plain.tell(), len(plain.getvalue()))[whence]
             if base + offset < 0:
-                with self.assertRaises(ValueError):
+                with self.assertRaises(OSError) as raised:
                     reader.seek(offset, whence)
+                if raised.exception.errno != errno.EINVAL:
+                    raise raised.exception
             else:
                 self.assertEqual(reader.seek(offset, whence), plain.seek(base + offset))
         size = numbers.choice((0, 1, 2, 100, 7000, 30_000))
@@ -601,8 +614,8 @@ class Reading(unittest.TestCase):
     def test_wrong_positions(self) -> None:
         reader = SealedReader(open_records(), KEY)
         reader.seek(12)
-        for offset, whence in ((-1, 0), (-13, 1), (-23, 2), (0, 3)):
-            with self.assertRaises(ValueError):
+        for offset, whence, error in ((-1, 0, OSError), (-13, 1, OSError), (-23, 2, OSError), (0, 3, ValueError)):
+            with self.assertRaises(error):
                 reader.seek(offset, whence)
             self.assertEqual(reader.tell(), 12)
         self.assertEqual(reader.read(2), b"cd")

@@ -909,8 +909,14 @@ class Files(unittest.TestCase):
                 self.assertEqual(archive.read("member"), member)
             with file.open_stream() as stream:
                 self.assertEqual((stream.seek(-3, os.SEEK_END), stream.read(9), stream.tell()), (file.size - 3, stream_end(file), file.size))
-                self.assertRaises(ValueError, stream.seek, -1)
+                self.assertRaises(OSError, stream.seek, -1)
+                self.assertEqual((stream.seek(0), stream.read(0), stream.readinto(bytearray())), (0, b"", 0))
+                self.assertRaises(TypeError, stream.readinto, b"")
             self.assertRaises(ValueError, stream.read)
+            file.truncate(0)
+            zipfile.ZipFile(file.open_stream(), "w").close()
+            with zipfile.ZipFile(file.open_stream()) as archive:
+                self.assertEqual(archive.namelist(), [])
 
     def test_secrets_are_not_copied(self) -> None:
         with RandomAccessFile.create(self.path, KEY) as file:
