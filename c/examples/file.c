@@ -143,14 +143,14 @@ static int recover(struct file *file, uint8_t *journal, size_t length)
         emptied(file->journal);
 }
 
-/* Opens the file, or makes one if there are no bytes of it or of its journal. */
-static int open_file(struct file *file)
+/* Opens the file. With O_CREAT in `flags` it makes one if there are no bytes of it or of its journal. */
+static int open_file(struct file *file, int flags)
 {
     uint8_t block[BLOCK_BYTES], *journal;
     uint32_t size;
     off_t length = lseek(file->journal, 0, SEEK_END);
     if (length == 0 && lseek(file->fd, 0, SEEK_END) == 0) {
-        return getentropy(file->id, sizeof file->id) == 0 && seal_header(file, block, 0, 0) &&
+        return (flags & O_CREAT) != 0 && getentropy(file->id, sizeof file->id) == 0 && seal_header(file, block, 0, 0) &&
             put(file->fd, block, sizeof block, 0) && fsync(file->fd) == 0;
     }
     if (length < 0 || (journal = malloc((size_t)length + 1)) == NULL) {
@@ -222,7 +222,7 @@ static int commit(const struct file *file, struct write *writes, size_t count, u
     return result && fsync(file->fd) == 0 && emptied(file->journal);
 }
 
-/* Opens and locks the files. With O_CREAT in `flags` it makes FILE if there is none. */
+/* Opens and locks the files. */
 static int begin(struct file *file, const char *key_path, const char *path, int flags)
 {
     struct flock whole = {.l_type = F_WRLCK, .l_whence = SEEK_SET};
@@ -242,7 +242,7 @@ static int begin(struct file *file, const char *key_path, const char *path, int 
         return 0;
     }
     file->journal = open(file->journal_path, O_RDWR | O_CREAT | O_NOFOLLOW, 0600);
-    return has_one_name(file->journal) && fsync(file->folder) == 0 && open_file(file);
+    return has_one_name(file->journal) && fsync(file->folder) == 0 && open_file(file, flags);
 }
 
 int main(int count, char **arguments)
