@@ -1,7 +1,8 @@
 //! The system's random bytes.
 
 use std::fs::File;
-use std::io::{self, Read};
+use std::io::{self, ErrorKind, Read};
+use std::os::unix::fs::FileTypeExt;
 use std::sync::atomic::{AtomicBool, Ordering};
 
 /// Whether a byte was read from `/dev/random` in this process.
@@ -13,19 +14,29 @@ static WAS_SEEDED: AtomicBool = AtomicBool::new(false);
 ///
 /// # Errors
 ///
-/// If `/dev/random` or `/dev/urandom` cannot be opened or read. Do not use `buf` then.
+/// If `/dev/random` or `/dev/urandom` cannot be opened or read, or is no device. Do not use `buf` then.
 pub fn fill_random(buf: &mut [u8]) -> io::Result<()> {
     // Until the source is seeded, `/dev/urandom` gives bytes that can be guessed, and `/dev/random` none.
     if !WAS_SEEDED.load(Ordering::Relaxed) {
-        File::open("/dev/random")?.read_exact(&mut [0])?;
+        device("/dev/random")?.read_exact(&mut [0])?;
         WAS_SEEDED.store(true, Ordering::Relaxed);
     }
-    File::open("/dev/urandom")?.read_exact(buf)
+    device("/dev/urandom")?.read_exact(buf)
+}
+
+/// Opens a device. A file in its place would return the same bytes each time.
+fn device(path: &str) -> io::Result<File> {
+    let file = File::open(path)?;
+    if !file.metadata()?.file_type().is_char_device() {
+        let text = "the system's source of random bytes is not a device";
+        return Err(io::Error::new(ErrorKind::InvalidData, text));
+    }
+    Ok(file)
 }
 
 #[cfg(test)]
 mod tests {
-    use super::fill_random;
+    use super::{device, fill_random};
 
     #[test]
     fn two_keys_differ() {
@@ -35,5 +46,6 @@ mod tests {
         }
         assert_ne!(keys[0], keys[1]);
         assert!(keys.iter().all(|key| key[24..] != [0; 8]));
+        assert!(device("/dev/null").is_ok() && device("/proc/version").is_err());
     }
 }

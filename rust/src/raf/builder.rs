@@ -100,7 +100,7 @@ impl<A: Algorithm, R: RafRng, J: JournalChoice> RafBuilder<A, R, J> {
     ///
     /// These errors change nothing:
     /// - [`Error::ChunkSize`], and errors of the source of random bytes;
-    /// - [`Error::Locked`] and [`Error::Moved`];
+    /// - [`Error::Locked`] and [`Error::Moved`], but a file that is moved while it is being overwritten is empty;
     /// - [`Error::Journal`]: the journal is not empty;
     /// - [`io::ErrorKind::AlreadyExists`]: `io` is not empty, and [`truncate`](Self::truncate) was not set.
     ///
