@@ -715,7 +715,8 @@ class RandomAccessFile(variants.Secret, turns.Turns):
             self.__dict__.pop("_cipher", None)
 
     def __enter__(self) -> Self:
-        self._check()
+        with self._next_batch(), self._turn():
+            self._check()
         return self
 
     def __exit__(

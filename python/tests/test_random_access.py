@@ -748,6 +748,7 @@ class Files(unittest.TestCase):
         with RandomAccessFile.create(self.path, KEY) as file:
             calls: list[Callable[[], Any]] = [file.commit, file.discard, file.close, lambda: file.batch().__enter__()]
             calls += [lambda: file.read_at(0, 1), lambda: file.write_at(0, b"x"), lambda: file.truncate(0)]
+            calls += [lambda: file.size, file.__enter__]
             file._changes = Entered()
             file.write_at(0, b"whole")
             with file.batch():
