@@ -754,6 +754,10 @@ class RandomAccessStream(variants.Secret, RawFile):  # type: ignore[misc]
             raise ValueError("I/O operation on closed file")
         return self._file
 
+    def _turn(self) -> ContextManager[Any]:
+        """Returns the lock of batches. Each call of the file takes it too, so no thread writes where another one does."""
+        return self._open_file()._next_batch()
+
     def readable(self) -> bool:
         """Returns True."""
         return self._open_file() is not None
@@ -762,31 +766,51 @@ class RandomAccessStream(variants.Secret, RawFile):  # type: ignore[misc]
 
     def readinto(self, buffer: _WriteableBuffer) -> int:
         """Fills the buffer with the next bytes, and returns how many: fewer only at the end of the contents."""
-        with memoryview(buffer) as view, bytes_of(view) as out:
-            if view.readonly:
-                raise TypeError("buffer must be writable")
-            found = self._open_file().read_at(self._position, len(out))
-            if found:
-                out[: len(found)] = found
-        self._position += len(found)
-        return len(found)
+        before = after = -1
+        try:
+            with self._turn(), memoryview(buffer) as view, bytes_of(view) as out:
+                if view.readonly:
+                    raise TypeError("buffer must be writable")
+                before = self._position
+                found = self._file.read_at(before, len(out))
+                count = len(found)
+                if found:
+                    out[:count] = found
+                self._position = after = before + count
+        except BaseException:
+            self._return_to(before, after)
+            raise
+        return count
 
     def write(self, data: _ReadableBuffer) -> int:
         """Writes all of the data at the position, and returns their length."""
-        count = self._open_file().write_at(self._position, data)
-        self._position += count
+        before = after = -1
+        try:
+            with self._turn():
+                before = self._position
+                count = self._file.write_at(before, data)
+                self._position = after = before + count
+        except BaseException:
+            self._return_to(before, after)
+            raise
         return count
+
+    def _return_to(self, before: int, after: int) -> None:
+        """Returns to a position after an exception at the end of a call, since a buffer then makes the call again."""
+        if self._position == after:
+            self._position = before
 
     def seek(self, offset: int, whence: int = os.SEEK_SET) -> int:
         """Goes to a position in the contents, and returns it."""
-        origin = {os.SEEK_SET: 0, os.SEEK_CUR: self._position, os.SEEK_END: self._open_file().size}.get(whence)
-        if origin is None:
-            raise ValueError(f"whence must be 0, 1 or 2, not {whence}")
-        position = origin + operator.index(offset)
-        if position < 0:
-            raise negative(position)
-        self._position = position
-        return position
+        with self._turn():
+            origin = {os.SEEK_SET: 0, os.SEEK_CUR: self._position, os.SEEK_END: self._file.size}.get(whence)
+            if origin is None:
+                raise ValueError(f"whence must be 0, 1 or 2, not {whence}")
+            position = origin + operator.index(offset)
+            if position < 0:
+                raise negative(position)
+            self._position = position
+            return position
 
     def tell(self) -> int:
         """Returns the position in the contents."""

@@ -919,6 +919,27 @@ class Files(unittest.TestCase):
             with zipfile.ZipFile(file.open_stream()) as archive:
                 self.assertEqual(archive.namelist(), [])
 
+    def test_a_stream_of_two_threads(self) -> None:
+        with RandomAccessFile.create(self.path, KEY) as file, file.open_stream() as stream:
+            other = threading.Thread(target=stream.write, args=(b"after",))
+            with file.batch():
+                other.start()
+                other.join(0.2)
+                stream.write(b"before")
+            other.join()
+        self.assertEqual(contents(self.path), b"beforeafter")
+
+    def test_a_signal_at_the_end_of_a_call_of_a_stream(self) -> None:
+        turn = mock.MagicMock()
+        turn.return_value.__exit__.side_effect = KeyboardInterrupt
+        with RandomAccessFile.create(self.path, KEY) as file, file.open_stream() as stream:
+            calls: list[Callable[[], object]] = [lambda: stream.write(b"once"), lambda: stream.readinto(bytearray(4))]
+            for call in calls:
+                with mock.patch.object(stream, "_turn", turn), self.assertRaises(KeyboardInterrupt):
+                    call()
+                self.assertEqual(stream.tell(), 0)
+        self.assertEqual(contents(self.path), b"once")
+
     def test_secrets_are_not_copied(self) -> None:
         with RandomAccessFile.create(self.path, KEY) as file:
             for each in (file, file.open_stream()):
