@@ -73,7 +73,8 @@ class RecordSealer(variants.Secret):
 
     `key` has 32 bytes. `prefix` has 24 bytes, and is used for no other stream under the key: nothing detects that. The
     opener needs the key, the prefix, the context and the header. End each stream with `seal_last`: without it the
-    stream is truncated.
+    stream is truncated. After a `MemoryError`, or an exception of a signal handler, a record may be lost: begin another
+    stream.
 
     >>> from hunkravy import RecordOpener, RecordSealer
     >>> prefix = RecordSealer.generate_prefix()
