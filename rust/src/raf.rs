@@ -116,7 +116,7 @@ pub const MAX_SIZE: u64 = 1 << 60;
 /// [`Error::Broken`]. If it has a journal, opening it again gives the contents before the commit or after it.
 ///
 /// A file belongs to the process that opened it. After `fork` these functions return [`Error::Locked`] in any other process, and
-/// dropping does nothing there. A `clone` of the system without the C library is not always noticed: do not use the file in it.
+/// dropping does nothing there. `_Fork`, and a `clone` without the C library, are not always noticed: do not use the file in it.
 ///
 /// If memory runs out, the error is [`Error::Io`] of kind [`OutOfMemory`](std::io::ErrorKind::OutOfMemory), and nothing has
 /// changed. Exceptions: the standard library ends the program if it finds none for the text of an error, or for a path while a
