@@ -435,9 +435,10 @@ class Files(unittest.TestCase):
             self.path.unlink()
 
     def test_a_creation_whose_file_another_program_takes(self) -> None:
-        def written(*arguments: Any) -> Any:
-            self.path.write_bytes(b"precious")
-            return flock(*arguments)
+        def written(descriptor: int, operation: int) -> None:
+            if operation != fcntl.LOCK_UN:
+                self.path.write_bytes(b"precious")
+            flock(descriptor, operation)
 
         def locked(descriptor: int, operation: int) -> None:
             with self.path.open() as other:
@@ -565,6 +566,21 @@ class Files(unittest.TestCase):
                     del inner
                     allocations.remove_mem_hooks()
             self.assertEqual(contents(path), b"outer", number)
+
+    def test_a_commit_and_a_discard_in_a_batch_that_fails(self) -> None:
+        with RandomAccessFile.create(self.path, KEY) as file:
+            with contextlib.suppress(KeyError), file.batch():
+                file.write_at(0, b"committed")
+                file.commit()
+                file.write_at(0, b"lost")
+                raise KeyError
+            self.assertEqual(file.read_at(0, 20), b"committed")
+            with file.batch():
+                file.write_at(9, b", lost")
+                with contextlib.suppress(KeyError), file.batch():
+                    raise KeyError
+                file.discard()
+        self.assertEqual(contents(self.path), b"committed")
 
     def test_a_batch_that_is_freed_in_a_call(self) -> None:
         def change() -> Generator[None, None, None]:
