@@ -330,6 +330,7 @@ static void check_names(void)
     HOLDS(symlink(key_path, journal_path) == 0 && !begin(&file, key_path, path, O_CREAT) && unlink(journal_path) == 0);
     HOLDS(get_key(open(key_path, O_RDONLY), key));
     HOLDS(!begin(&file, key_path, copy_path, 0) && access(copy_path, F_OK) != 0);
+    HOLDS(!begin(&file, copy_path, copy_path, O_CREAT) && access(copy_path, F_OK) != 0);
     HOLDS(close(open(copy_path, O_CREAT | O_RDWR, 0600)) == 0 && !begin(&file, key_path, copy_path, 0));
     HOLDS(lseek(file.fd, 0, SEEK_END) == 0 && unlink(copy_path) == 0 && unlink(file.journal_path) == 0);
     HOLDS(link(path, copy_path) == 0 && !begin(&file, key_path, path, O_CREAT) && unlink(copy_path) == 0);

@@ -58,6 +58,8 @@ MESSAGES = (
      r"hunkravy: small is also the input: input and output must be different files"),
     ("mkfifo pipe; $TOOL seal --force -k key small pipe <> pipe", 3,
      r"hunkravy: pipe is a pipe that only this run reads, so what is written would be lost: give another OUT"),
+    ("$TOOL open -k key sealed > /dev/full", 3,
+     r"hunkravy: standard output cannot be written: .+\nhunkravy: the output is incomplete: discard it"),
     ("$TOOL seal --force -k key small /dev/stdout > out", 3,
      r"hunkravy: /dev/stdout is where standard output or standard error leads: give another OUT, or - for standard output"),
     ("$TOOL seal --force -k key small key", 3, r"hunkravy: key is the key file key: writing it would destroy the key"),
