@@ -119,8 +119,8 @@ pub const MAX_SIZE: u64 = 1 << 60;
 /// dropping does nothing there. `_Fork`, and a `clone` without the C library, are not always noticed: do not use the file in it.
 ///
 /// If memory runs out, the error is [`Error::Io`] of kind [`OutOfMemory`](std::io::ErrorKind::OutOfMemory), and nothing has
-/// changed. Exceptions: the standard library ends the program if it finds none for the text of an error, or for a path while a
-/// file is opened or, at a path of more than 300 bytes, committed. Both check first that there are 64 KiB.
+/// changed. Exceptions: the standard library ends the program if it finds none for the text of an error or for the copy of a path.
+/// Opening copies paths, and so does a commit if the path has more than 300 bytes. Both check first that there are 64 KiB.
 #[must_use]
 pub struct Raf<A: Algorithm, I: RafIo = FileIo, R: RafRng = DefaultRng, J: RafIo = JournalFile> {
     io: I,
@@ -363,7 +363,7 @@ impl<A: Algorithm, I: RafIo, R: RafRng, J: RafIo> Raf<A, I, R, J> {
         let sealed = SealedChanges::new(&self.layout, &mut self.changes, numbers, nonces);
         let [first, last] = headers.map(|bytes| PendingWrite { place: 0, bytes });
         writes.extend(once(first).chain(sealed.writes()).chain(once(last)));
-        // What is allocated below are copies of long paths.
+        // Below, the standard library allocates copies of long paths.
         check_memory()?;
         // Not before: sealing may take long, and the file may be moved meanwhile.
         self.io.check_path()?;

@@ -17,8 +17,8 @@ struct Batches {
     open: Vec<u64>,
 }
 
-/// The batches of a process. One that was forked makes a list of its own: a thread of the other may have held that one's, which
-/// then is locked for ever in the child. A child has no use for it, since it cannot use the files of the other.
+/// The batches of a process. After a fork the child makes its own list: if another thread held the parent's list during the fork,
+/// the child's copy is locked for ever. The child cannot use the files of the parent, and needs none of their batches.
 struct List {
     forks: u32,
     batches: Mutex<Batches>,
