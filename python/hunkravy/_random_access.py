@@ -53,7 +53,7 @@ class Savepoint:
     counter: int
     # Whether one that it was in has ended before it.
     has_failed: bool = False
-    # Whether it has ended and failed. The next call of the file then goes back.
+    # Whether it has ended. If it is still among the open ones, it has failed, and the next call of the file goes back.
     is_over: bool = False
 
 

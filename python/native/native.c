@@ -993,14 +993,14 @@ static PyObject *batch_new(PyTypeObject *type, PyObject *arguments, PyObject *na
 }
 
 /*
- * Ends it. If it has failed, the next call of the file goes back: a call may be running now, in this thread or in its own. This
- * needs no memory, waits for nothing, and keeps the exception that there may be.
+ * Ends it. If it has failed, it is still one of those that are open, and the next call of the file goes back: a call may be
+ * running now, in this thread or in its own. This needs no memory, waits for nothing, and keeps the exception that there may be.
  */
-static void end(Batch *self, bool is_whole)
+static void end(Batch *self)
 {
     PyObject *kind, *error, *traceback;
     PyErr_Fetch(&kind, &error, &traceback);
-    if (self->savepoint != NULL && !is_whole && PyObject_SetAttr(self->savepoint, self->is_over, Py_True) < 0) {
+    if (self->savepoint != NULL && PyObject_SetAttr(self->savepoint, self->is_over, Py_True) < 0) {
         PyErr_Clear();
     }
     Py_CLEAR(self->savepoint);
@@ -1038,7 +1038,7 @@ static PyObject *batch_enter(PyObject *object, PyObject *none)
     self->is_over = PyUnicode_InternFromString("is_over");
     self->savepoint = self->is_over == NULL ? NULL : PyObject_CallMethod(self->file, "_begin_batch", NULL);
     if (self->savepoint == NULL || PyObject_SetAttrString(self->file, "_batch", self->savepoint) < 0) {
-        end(self, false);
+        end(self);
         return NULL;
     }
     return Py_NewRef(self->file);
@@ -1063,7 +1063,7 @@ static PyObject *batch_exit(PyObject *object, PyObject *given)
     } else {
         result = PyObject_CallMethod(self->file, "_end_batch", "(O)", self->savepoint);
     }
-    end(self, kind == Py_None && result != NULL);
+    end(self);
     return result;
 }
 
@@ -1081,7 +1081,7 @@ static void batch_free(PyObject *object)
 {
     PyTypeObject *type = Py_TYPE(object);
     PyObject_GC_UnTrack(object);
-    end((Batch *)object, false);
+    end((Batch *)object);
     Py_XDECREF(((Batch *)object)->file);
     PyObject_GC_Del(object);
     Py_DECREF(type);
