@@ -24,7 +24,7 @@ HEADERS = $(OWN_HEADERS) hunkravy_sodium.h
 C_EXAMPLES = $(basename $(notdir $(sort $(wildcard c/examples/*.c))))
 
 # The names that the library exports: the calls that its headers declare.
-EXPORTS = sed -nE 's/^(HUNKRAVY_MUST_USE )?(int|size_t|uint64_t|void|const char) \*?(hunkravy_[a-z0-9_]*)\(.*/\3/p' $(OWN_HEADERS:%=c/include/%)
+EXPORTS = sed -nE 's/^(HUNKRAVY_MUST_USE )?(int|size_t|uint32_t|uint64_t|void|const char) \*?(hunkravy_[a-z0-9_]*)\(.*/\3/p' $(OWN_HEADERS:%=c/include/%)
 
 # ---- The library
 

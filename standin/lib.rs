@@ -13,6 +13,7 @@ mod pages;
 mod records;
 mod round;
 mod slices;
+mod steps;
 
 /// What nothing that is released may have: `tools/check_dist.sh` looks for these bytes.
 #[unsafe(no_mangle)]

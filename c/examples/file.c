@@ -61,11 +61,6 @@ static int put(int fd, const uint8_t *bytes, size_t length, uint64_t place)
     return pwrite(fd, bytes, length, (off_t)place) == (ssize_t)length;
 }
 
-static int emptied(int fd)
-{
-    return ftruncate(fd, 0) == 0 && fsync(fd) == 0;
-}
-
 /* Each name of a file would have a journal, and a journal with several names may be another file. */
 static int has_one_name(int fd)
 {
@@ -90,11 +85,8 @@ static int forgotten(int fd)
     return fsync(fd) == 0 && posix_fadvise(fd, 0, 0, POSIX_FADV_DONTNEED) == 0;
 }
 
-/*
- * Replaces the journal with a copy that is synced. After a sync that failed, Linux returns bytes that the disk does not
- * have. The old journal stays until the new one is whole: the disk may need it.
- */
-static int write_again(struct file *file, const uint8_t *journal, size_t length)
+/* Replaces the journal with a copy that is synced. */
+static int replace_journal(struct file *file, const uint8_t *journal, size_t length)
 {
     int old = file->journal, copy;
     unlink(file->copy_path);
@@ -109,19 +101,67 @@ static int write_again(struct file *file, const uint8_t *journal, size_t length)
     return fsync(file->folder) == 0 && close(old) == 0;
 }
 
-/* Makes the writes of an interrupted commit again, the `left` bytes at `write`. */
-static int make_again(const struct file *file, const uint8_t *write, size_t left)
-{
-    uint64_t place;
+/* A journal, and its writes. */
+struct journal {
+    const uint8_t *bytes;
     size_t length;
-    for (; left > 0; left -= HUNKRAVY_JOURNAL_HEAD_BYTES + length) {
-        if (hunkravy_journal_next(write, left, &place, &length) != HUNKRAVY_OK ||
-            !put(file->fd, write + HUNKRAVY_JOURNAL_HEAD_BYTES, length, place)) {
-            return 0;
+    const struct write *writes;
+    size_t count;
+};
+
+/* Takes the steps of a commit or of a recovery, which `step` names one after the other. */
+static int take_steps(
+    struct file *file, uint32_t (*step)(uint64_t, uint64_t, uint64_t *), const struct journal *journal)
+{
+    uint64_t number = 0, write = 0;
+    const struct write *made;
+    for (int taken = 1; taken; number++) {
+        switch (step(number, journal->count, &write)) {
+        case HUNKRAVY_STEP_WRITE_BEGINNING:
+            taken = put(file->journal, journal->bytes, BEGINNING_BYTES, 0);
+            break;
+        case HUNKRAVY_STEP_WRITE_REST:
+            taken = put(
+                file->journal, journal->bytes + BEGINNING_BYTES, journal->length - BEGINNING_BYTES, BEGINNING_BYTES);
+            break;
+        case HUNKRAVY_STEP_SYNC_JOURNAL:
+            taken = fsync(file->journal) == 0;
+            break;
+        case HUNKRAVY_STEP_REPLACE_JOURNAL:
+            taken = replace_journal(file, journal->bytes, journal->length);
+            break;
+        case HUNKRAVY_STEP_MAKE_WRITE:
+            made = &journal->writes[write];
+            taken = put(file->fd, made->bytes, made->length, made->place);
+            break;
+        case HUNKRAVY_STEP_SYNC_FILE:
+            taken = fsync(file->fd) == 0;
+            break;
+        case HUNKRAVY_STEP_EMPTY_JOURNAL:
+            taken = ftruncate(file->journal, 0) == 0;
+            break;
+        default:
+            return 1;
         }
-        write += HUNKRAVY_JOURNAL_HEAD_BYTES + length;
     }
-    return fsync(file->fd) == 0;
+    return 0;
+}
+
+/* Returns how many writes these `left` bytes of a journal have, and sets `writes` to them unless it is null. */
+static size_t writes_in(const uint8_t *bytes, size_t left, struct write *writes)
+{
+    struct write found;
+    size_t count = 0;
+    while (left > 0 && hunkravy_journal_next(bytes, left, &found.place, &found.length) == HUNKRAVY_OK) {
+        found.bytes = bytes + HUNKRAVY_JOURNAL_HEAD_BYTES;
+        if (writes != NULL) {
+            writes[count] = found;
+        }
+        bytes += HUNKRAVY_JOURNAL_HEAD_BYTES + found.length;
+        left -= HUNKRAVY_JOURNAL_HEAD_BYTES + found.length;
+        count++;
+    }
+    return count;
 }
 
 /* Completes a commit that was interrupted, or drops what there is of it. */
@@ -134,13 +174,21 @@ static int recover(struct file *file, uint8_t *journal, size_t length)
         return 0;
     }
     found = pread(file->fd, block, sizeof block, 0);
-    return found >= 0 && get(file->journal, journal, length, 0) &&
-        hunkravy_journal_check(VARIANT, block, (size_t)found, file->key, KEY_BYTES, journal, length, &left) ==
-        HUNKRAVY_OK &&
-        fsync(file->fd) == 0 &&
-        (left == 0 ||
-            (write_again(file, journal, length) && make_again(file, journal + HUNKRAVY_JOURNAL_START_BYTES, left))) &&
-        emptied(file->journal);
+    if (found < 0 || !get(file->journal, journal, length, 0) ||
+        hunkravy_journal_check(VARIANT, block, (size_t)found, file->key, KEY_BYTES, journal, length, &left) !=
+        HUNKRAVY_OK) {
+        return 0;
+    }
+    const uint8_t *part = left == 0 ? journal : journal + HUNKRAVY_JOURNAL_START_BYTES;
+    size_t count = writes_in(part, left, NULL);
+    struct write *writes = calloc(count + 1, sizeof *writes);
+    if (writes == NULL) {
+        return 0;
+    }
+    writes_in(part, left, writes);
+    int result = take_steps(file, hunkravy_recovery_step, &(struct journal){journal, length, writes, count});
+    free(writes);
+    return result;
 }
 
 /* Opens the file. With O_CREAT in `flags` it makes one if there are no bytes of it or of its journal. */
@@ -181,45 +229,47 @@ static int seal_page(const struct file *file, uint8_t *page, uint64_t number, st
         HUNKRAVY_OK;
 }
 
-/* Writes the journal. What it begins with is synced first. */
-static int write_journal(const struct file *file, const struct write *writes, size_t count)
+/* Returns the length of the journal of the writes, which becomes `bytes`, or 0 if it cannot be made. */
+static size_t journal_of(const struct file *file, const struct write *writes, size_t count, uint8_t *bytes)
 {
     hunkravy_state st;
-    uint8_t start[HUNKRAVY_JOURNAL_START_BYTES], nonce[HUNKRAVY_JOURNAL_NONCE_BYTES];
-    uint8_t head[HUNKRAVY_JOURNAL_HEAD_BYTES], mac[HUNKRAVY_JOURNAL_MAC_BYTES];
-    uint64_t place = sizeof start;
+    uint8_t nonce[HUNKRAVY_JOURNAL_NONCE_BYTES];
+    size_t length = HUNKRAVY_JOURNAL_START_BYTES;
     int result = getentropy(nonce, sizeof nonce) == 0 &&
-        hunkravy_journal_init(VARIANT, &st, SIZE, file->id, nonce, file->key, KEY_BYTES, start) == HUNKRAVY_OK &&
-        put(file->journal, start, BEGINNING_BYTES, 0) && fsync(file->journal) == 0 &&
-        put(file->journal, start + BEGINNING_BYTES, sizeof nonce, BEGINNING_BYTES);
+        hunkravy_journal_init(VARIANT, &st, SIZE, file->id, nonce, file->key, KEY_BYTES, bytes) == HUNKRAVY_OK;
     for (size_t i = 0; result && i < count; i++) {
         const struct write *write = &writes[i];
-        result = hunkravy_journal_entry(&st, write->place, write->bytes, write->length, head) == HUNKRAVY_OK &&
-            put(file->journal, head, sizeof head, place) &&
-            put(file->journal, write->bytes, write->length, place + sizeof head);
-        place += sizeof head + write->length;
+        result = hunkravy_journal_entry(&st, write->place, write->bytes, write->length, bytes + length) == HUNKRAVY_OK;
+        memcpy(bytes + length + HUNKRAVY_JOURNAL_HEAD_BYTES, write->bytes, write->length);
+        length += HUNKRAVY_JOURNAL_HEAD_BYTES + write->length;
     }
-    return result && hunkravy_journal_final(&st, mac) == HUNKRAVY_OK && put(file->journal, mac, sizeof mac, place) &&
-        fsync(file->journal) == 0;
+    return result && hunkravy_journal_final(&st, bytes + length) == HUNKRAVY_OK ? length + HUNKRAVY_JOURNAL_MAC_BYTES : 0;
 }
 
 /*
  * Commits encrypted pages, the writes from 1 up to `count`, of which the last is furthest in the file. The headers become
  * writes 0 and `count`. After an error open the file again.
  */
-static int commit(const struct file *file, struct write *writes, size_t count, uint64_t length)
+static int commit(struct file *file, struct write *writes, size_t count, uint64_t length)
 {
     uint8_t old[BLOCK_BYTES], next[BLOCK_BYTES];
     off_t size = lseek(file->fd, 0, SEEK_END), end = (off_t)(writes[count - 1].place + PAGE_BYTES);
     writes[0] = (struct write){0, old, sizeof old};
     writes[count] = (struct write){0, next, sizeof next};
     /* Without room for the pages nobody could make the writes of the journal. */
-    int result = get(file->fd, old, sizeof old, 0) && seal_header(file, next, file->counter + 1, length) && size >= 0 &&
-        (end <= size || posix_fallocate(file->fd, size, end - size) == 0) && write_journal(file, writes, count + 1);
-    for (size_t i = 0; result && i <= count; i++) {
-        result = put(file->fd, writes[i].bytes, writes[i].length, writes[i].place);
+    if (!get(file->fd, old, sizeof old, 0) || !seal_header(file, next, file->counter + 1, length) || size < 0 ||
+        (end > size && posix_fallocate(file->fd, size, end - size) != 0)) {
+        return 0;
     }
-    return result && fsync(file->fd) == 0 && emptied(file->journal);
+    size_t room = HUNKRAVY_JOURNAL_START_BYTES + HUNKRAVY_JOURNAL_MAC_BYTES;
+    for (size_t i = 0; i <= count; i++) {
+        room += HUNKRAVY_JOURNAL_HEAD_BYTES + writes[i].length;
+    }
+    uint8_t *bytes = malloc(room);
+    int result = bytes != NULL && journal_of(file, writes, count + 1, bytes) == room &&
+        take_steps(file, hunkravy_commit_step, &(struct journal){bytes, room, writes, count + 1});
+    free(bytes);
+    return result;
 }
 
 /* Opens and locks the files. */

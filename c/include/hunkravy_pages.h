@@ -105,31 +105,26 @@ HUNKRAVY_MUST_USE int hunkravy_page_header_open(uint32_t variant, const uint8_t 
 
 /* ---- The journal
  *
- * After a crash all writes of a commit are there, or none, if you follow these steps. The bytes of the journal, and the
- * decision on it, come from proved functions. The steps are tested, with file.c. RANDOM-ACCESS.md has the model of a
- * crash.
+ * After a crash all writes of a commit are there, or none, if you make the calls as follows. The bytes of the
+ * journal, the decision on it, and the order of the calls come from proved functions. What you make of a step is
+ * tested, with file.c. RANDOM-ACCESS.md has the model of a crash.
  *
  * To commit, with a journal that is empty, and a file and a journal that are synced:
  *
  * 1. Encrypt the changed pages and the next header. Read the header block of the file. Reserve room for new pages, for
  *    example with posix_fallocate.
- * 2. hunkravy_journal_init. Write the first HUNKRAVY_JOURNAL_BEGINNING_BYTES of `start` to the journal, and sync it.
- * 3. Write the rest of `start`. Call hunkravy_journal_entry for each write, in this order: the header block of the file
- *    as it is, at place 0; each changed page, at its position; the next header block, at place 0. After each write
- *    `head` and then its bytes to the journal. At the end write the MAC of hunkravy_journal_final. Sync the journal.
- * 4. Make the writes in the file, in the same order, and sync it.
- * 5. Empty the journal, and sync it.
+ * 2. Make the journal: `start` of hunkravy_journal_init, and then for each write `head` of hunkravy_journal_entry and
+ *    its bytes, in this order: the header block of the file as it is, at place 0; each changed page, at its position;
+ *    the next header block, at place 0. At the end comes the MAC of hunkravy_journal_final.
+ * 3. Take the steps of hunkravy_commit_step.
  *
  * To open a file, or after an error of a commit:
  *
  * 1. If the journal is not empty, sync both, and call posix_fadvise with POSIX_FADV_DONTNEED, so that reads return what
  *    the disk has. Read the journal, and the first HUNKRAVY_PAGE_HEADER_BLOCK_BYTES of the file.
  * 2. hunkravy_journal_check. After an error leave both as they are.
- * 3. Sync the file. If there are writes, write the journal to another file, sync that, rename it over the journal, and
- *    sync the folder: after a sync that failed, Linux returns bytes that the disk does not have. Do not write the
- *    journal in its place: a crash might tear it.
- * 4. Make the writes that hunkravy_journal_next finds, in their order, and sync the file.
- * 5. Empty the journal, and sync it. Then read the header of the file.
+ * 3. Count the writes that hunkravy_journal_next finds, if there are any, and take the steps of
+ *    hunkravy_recovery_step. Then read the header of the file.
  */
 
 #define HUNKRAVY_JOURNAL_NONCE_BYTES 16
@@ -195,6 +190,42 @@ HUNKRAVY_MUST_USE int hunkravy_journal_check(uint32_t variant, const uint8_t *fi
  */
 HUNKRAVY_MUST_USE int hunkravy_journal_next(const uint8_t *writes, size_t writeslen, uint64_t *place,
     size_t *byteslen) HUNKRAVY_NONNULL(3, 4);
+
+/* ---- The order of the calls
+ *
+ * A commit and a recovery are steps, one after the other. Ask for step 0, take it, ask for step 1, and so on, until
+ * HUNKRAVY_STEP_DONE. Stop at the first step that fails, and open the file again. It is proved of the steps that after
+ * a crash at any point a recovery gives the file before the commit or the file after it; also after a crash in a
+ * recovery.
+ */
+
+/* No step is left. */
+#define HUNKRAVY_STEP_DONE 0u
+/* Write the first HUNKRAVY_JOURNAL_BEGINNING_BYTES of the journal to it, at its beginning. */
+#define HUNKRAVY_STEP_WRITE_BEGINNING 1u
+/* Write the rest of the journal, after them. */
+#define HUNKRAVY_STEP_WRITE_REST 2u
+/* Sync the journal. */
+#define HUNKRAVY_STEP_SYNC_JOURNAL 3u
+/* Replace the journal by a copy of itself: write it to another file, sync that, rename it over the journal, and sync
+ * the folder. After a sync that failed, Linux returns bytes that the disk does not have. Do not write it in its place:
+ * a crash might tear it. */
+#define HUNKRAVY_STEP_REPLACE_JOURNAL 4u
+/* Make write number `write` of the journal in the file, the first being 0. */
+#define HUNKRAVY_STEP_MAKE_WRITE 5u
+/* Sync the file. */
+#define HUNKRAVY_STEP_SYNC_FILE 6u
+/* Empty the journal. */
+#define HUNKRAVY_STEP_EMPTY_JOURNAL 7u
+
+/*
+ * Returns step `number` of a commit with so many writes, and of a recovery by a journal that has so many, or none if it
+ * is not whole. Sets `write` if the step makes a write.
+ */
+HUNKRAVY_MUST_USE uint32_t hunkravy_commit_step(uint64_t number, uint64_t writes, uint64_t *write)
+    HUNKRAVY_NONNULL(3);
+HUNKRAVY_MUST_USE uint32_t hunkravy_recovery_step(uint64_t number, uint64_t writes, uint64_t *write)
+    HUNKRAVY_NONNULL(3);
 
 #ifdef __cplusplus
 }

@@ -90,3 +90,13 @@ int hunkravy_journal_next(const uint8_t *writes, size_t writeslen, uint64_t *pla
     }
     return code;
 }
+
+uint32_t hunkravy_commit_step(uint64_t number, uint64_t writes, uint64_t *write)
+{
+    return hunkravy_proved_commit_step(number, writes, write);
+}
+
+uint32_t hunkravy_recovery_step(uint64_t number, uint64_t writes, uint64_t *write)
+{
+    return hunkravy_proved_recovery_step(number, writes, write);
+}

@@ -96,6 +96,8 @@ int hunkravy_proved_journal_final(uint64_t *st, uint8_t *mac);
 int hunkravy_proved_journal_check(uint32_t variant, const uint8_t *file, size_t filelen, const uint8_t *k, size_t klen,
     const uint8_t *journal, size_t journallen, size_t *writeslen);
 int hunkravy_proved_journal_next(const uint8_t *writes, size_t writeslen, uint64_t *place, size_t *byteslen);
+uint32_t hunkravy_proved_commit_step(uint64_t number, uint64_t writes, uint64_t *write);
+uint32_t hunkravy_proved_recovery_step(uint64_t number, uint64_t writes, uint64_t *write);
 
 #pragma GCC visibility pop
 

@@ -220,11 +220,41 @@ static void check_variant(const struct variant *variant)
     check_refused(&made, 6, SIZE, made.n, HUNKRAVY_WRONG_VARIANT);
 }
 
+/* The steps of a commit or of a recovery: these, and then none. */
+static void check_steps(uint32_t (*step)(uint64_t, uint64_t, uint64_t *), const uint32_t *wanted, size_t count,
+    uint64_t writes)
+{
+    uint64_t made = 0, write;
+
+    for (size_t i = 0; i < count; i++) {
+        write = 77;
+        HOLDS(step(i, writes, &write) == wanted[i]);
+        HOLDS(write == (wanted[i] == HUNKRAVY_STEP_MAKE_WRITE ? made++ : 77));
+    }
+    write = 77;
+    HOLDS(made == writes && step(count, writes, &write) == HUNKRAVY_STEP_DONE);
+    HOLDS(step(UINT64_MAX, writes, &write) == HUNKRAVY_STEP_DONE && write == 77);
+}
+
+static void check_orders(void)
+{
+    static const uint32_t commit[] = {1, 3, 2, 3, 5, 5, 5, 6, 7, 3}, nothing[] = {1, 3, 2, 3, 6, 7, 3};
+    static const uint32_t recovery[] = {6, 4, 5, 6, 7, 3}, torn[] = {6, 3, 7, 3};
+    uint64_t write = 0;
+
+    check_steps(hunkravy_commit_step, commit, COUNT(commit), 3);
+    check_steps(hunkravy_commit_step, nothing, COUNT(nothing), 0);
+    check_steps(hunkravy_recovery_step, recovery, COUNT(recovery), 1);
+    check_steps(hunkravy_recovery_step, torn, COUNT(torn), 0);
+    HOLDS(hunkravy_commit_step(UINT64_MAX, UINT64_MAX, &write) == HUNKRAVY_STEP_MAKE_WRITE && write == UINT64_MAX - 4);
+}
+
 int main(void)
 {
     for (size_t i = 0; i < COUNT(VARIANTS); i++) {
         check_variant(&VARIANTS[i]);
     }
+    check_orders();
     printf("hunkravy.h on journals: %lu checks, all right\n", checks);
     return EXIT_SUCCESS;
 }

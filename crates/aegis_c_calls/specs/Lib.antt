@@ -3,3 +3,4 @@ pub mod Codes
 pub mod JournalCalls
 pub mod PageCalls
 pub mod RecordCalls
+pub mod StepCalls

@@ -141,7 +141,7 @@ by_empty : (key context old : List ℕ) (P : List ℕ → Type 0) → P old → 
 by_empty key context old P p = record { whole = λ writes is. absurd (empty_is_none key context writes is); other = λ not. p }
 
 -- the writes of a whole journal are made
-by_journal : (key context js old : List ℕ) (writes : Writes) (P : List ℕ → Type 0) → IsJournal key context writes js → P (after_writes writes old) → Gives key context js old P
+pub by_journal : (key context js old : List ℕ) (writes : Writes) (P : List ℕ → Type 0) → IsJournal key context writes js → P (after_writes writes old) → Gives key context js old P
 by_journal key context js old writes P is p = record {
   whole = λ found found_is. rw (one_journal key context found writes js found_is is) p;
   other = λ not. absurd (not writes is);
@@ -149,7 +149,7 @@ by_journal key context js old writes P is p = record {
 
 -- ---- states
 
-recovers_by : (key context xs : List ℕ) (writes : Writes) (P Q : List ℕ → Type 0) (storage journal : Option Disk) → CrashLeaves P storage → CrashLeaves Q journal
+pub recovers_by : (key context xs : List ℕ) (writes : Writes) (P Q : List ℕ → Type 0) (storage journal : Option Disk) → CrashLeaves P storage → CrashLeaves Q journal
     → ((ys js : List ℕ) → P ys → Q js → IsNoForgery key context writes js → GivesOneOf key context xs (after_writes writes xs) js ys) → RecoversUnlessForged key context xs writes storage journal
 recovers_by key context xs writes P Q storage journal s j gives = record {
   storage_disk = s.disk;

@@ -1,3 +1,7 @@
 pub mod Disks
 pub mod Journals
 pub mod Overwriting
+pub mod StepFacts
+pub mod StepLaws
+pub mod Stepping
+pub mod Driving

@@ -1,3 +1,4 @@
 pub mod Bytes
 pub mod Disk
 pub mod Journal
+pub mod Steps

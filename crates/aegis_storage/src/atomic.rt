@@ -4,9 +4,10 @@ ghost use Rattle.std.specs.Prelude.{◌≡◌, ◌<◌, ◌≤◌, [], IfSome, L
 ghost use Rattle.aegis_storage.specs.Disk.{WritesAll, after_writes, certain, writes_of};
 ghost use Rattle.aegis_storage.specs.Journal.{IsAtRest, KeepsBeginning, RecoversUnlessForged};
 
-use crate::calls::{empty, write_and_sync, write_journal};
-use crate::journal::{BEGINNING_BYTES, NONCE_BYTES, journal_bytes};
+use crate::driver::take_steps;
+use crate::journal::{BEGINNING_BYTES, NONCE_BYTES, journal_bytes, writes_part};
 use crate::pending::PendingWrite;
+use crate::steps::Order;
 use crate::store::Storage;
 use aegis::aegis128l::Key;
 use aegis::record::MAX_CONTEXT_BYTES;
@@ -17,9 +18,8 @@ use std::io::ErrorKind;
 /// Makes the writes, the first of them first, so that after a crash [`crate::recover`] makes all of them or none.
 ///
 /// The storage and the journal must be at rest: all that they hold is synced, and the journal is empty, as `commit` and
-/// `recover` leave them with `Ok`. The journal authenticates the writes and does not encrypt them. First its beginning
-/// is written and synced, and then the rest; then the writes are made and synced, and then the journal is emptied and
-/// synced. With no writes nothing is called.
+/// `recover` leave them with `Ok`. The journal authenticates the writes and does not encrypt them. The calls are the
+/// steps of [`crate::commit_step`]. With no writes nothing is called.
 ///
 /// Under one key a nonce must be used for one journal only. The context names the storage; it has at most
 /// [`MAX_CONTEXT_BYTES`]. The beginning is what the journal begins with. Whatever a crash leaves, a journal with more
@@ -62,8 +62,7 @@ pub fn commit<S: Storage, J: Storage, A: Allocator + Copy>(
     if journal.size()? != 0 {
         return Err(io::Error::from(ErrorKind::AlreadyExists));
     }
-    let content = journal_bytes(alloc, key, beginning, nonce, context, writes)?;
-    write_journal(journal, &content)?;
-    write_and_sync(storage, writes)?;
-    empty(journal)
+    let whole = journal_bytes(alloc, key, beginning, nonce, context, writes)?;
+    let content = writes_part(&whole);
+    take_steps(Order::Commit, storage, journal, &whole, content)
 }

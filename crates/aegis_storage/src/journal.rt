@@ -91,6 +91,18 @@ pub fn journal_bytes<A: Allocator + Copy>(
     Ok(journal)
 }
 
+/// Returns the part of a whole journal that has its writes.
+pub fn writes_part(journal: &[u8]) -> &[u8]
+    requires { 560 ≤ length journal.now }
+    ensures { (key context content : List ℕ) → IsFramed key context content journal.now
+        → result.now ≡ content }
+{
+    let (_beginning, rest) = journal.split_at(BEGINNING_BYTES);
+    let (_nonce, rest) = rest.split_at(NONCE_BYTES);
+    let (content, _mac) = rest.split_at(rest.len() - MAC_BYTES);
+    content
+}
+
 // Returns the content of a journal, or `None` if the bytes are none under this key and context.
 fn content_of<'a>(key: &Key, context: &[u8], journal: &'a [u8]) -> Option<&'a [u8]>
     requires { length context.now ≤ MAX_CONTEXT_BYTES }

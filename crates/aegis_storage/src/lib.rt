@@ -19,10 +19,13 @@
 mod atomic;
 pub mod bytes;
 mod calls;
+mod driver;
 mod journal;
+mod journal_file;
 pub mod laws;
 mod pending;
 mod recovery;
+mod steps;
 mod store;
 
 pub use atomic::commit;
@@ -30,6 +33,8 @@ pub use calls::read_all;
 pub use journal::{
     BEGINNING_BYTES, MAX_JOURNAL_BYTES, NONCE_BYTES, first_write, journaled_content,
 };
+pub use journal_file::JournalFile;
 pub use pending::PendingWrite;
 pub use recovery::recover;
+pub use steps::{Step, commit_step, recovery_step};
 pub use store::{MAX_STORAGE_BYTES, NoJournal, Storage};

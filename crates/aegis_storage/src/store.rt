@@ -60,13 +60,16 @@ pub trait Storage {
         ensures kept { OnErr result (Keeps (bytes self.old) (bytes self.new)) }
         ensures pending { Adds (disk self.old) (disk self.new) (Size size ∷ []) };
 
-    /// Writes all that the storage holds once more, in place, so that the next sync also makes certain what an earlier
-    /// sync that failed may have left out: Linux forgets it, and reports no error again. `all` is what the storage
-    /// holds. Bytes that are written over themselves are the same after a crash.
-    fn rewrite(&mut self, all: &[u8]) -> io::Result<()>
+    /// Replaces what the storage holds by a copy of it that is synced: for a file, the copy is written under another
+    /// name, synced, and renamed over the old one, and then the folder is synced. So all of it is certain with `Ok`, also
+    /// what an earlier sync that failed may have left out: Linux forgets it, and reports no error again. After an error or
+    /// a crash the storage is the old one or the copy. `all` is what the storage holds.
+    fn replace(&mut self, all: &[u8]) -> io::Result<()>
         requires all { IfSome (bytes self.old) (λ xs. all.now ≡ xs) }
         requires within { length all.now ≤ MAX_STORAGE_BYTES }
         ensures kept { Keeps (bytes self.old) (bytes self.new) }
+        ensures certain { OnOk result
+            (MakesCertain (bytes self.old) (disk self.old) (disk self.new)) }
         ensures pending { Adds (disk self.old) (disk self.new) [] };
 
     /// Returns once a crash leaves all that was written. For a file the system must ensure that; a vector's contract
@@ -119,7 +122,7 @@ impl<A: Allocator> Storage for Vec<u8, A> {
         Ok(())
     }
 
-    fn rewrite(&mut self, _all: &[u8]) -> io::Result<()> {
+    fn replace(&mut self, _all: &[u8]) -> io::Result<()> {
         Ok(())
     }
 
@@ -155,7 +158,7 @@ impl Storage for NoJournal {
         Ok(())
     }
 
-    fn rewrite(&mut self, _all: &[u8]) -> io::Result<()> {
+    fn replace(&mut self, _all: &[u8]) -> io::Result<()> {
         Ok(())
     }
 
@@ -164,6 +167,7 @@ impl Storage for NoJournal {
     }
 }
 
+/// A file has no name of its own to be replaced under: it is no journal. One that is recovered by is a [`crate::JournalFile`].
 impl Storage for File {
     ghost possible = { λ _. tt };
 
@@ -183,8 +187,9 @@ impl Storage for File {
         self.set_len(size)
     }
 
-    fn rewrite(&mut self, all: &[u8]) -> io::Result<()> {
-        self.write_all_at(all, 0)
+    /// Returns `Unsupported`: the file's name is not known here.
+    fn replace(&mut self, _all: &[u8]) -> io::Result<()> {
+        Err(io::Error::from(ErrorKind::Unsupported))
     }
 
     fn sync(&mut self) -> io::Result<()> {

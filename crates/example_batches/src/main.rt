@@ -6,10 +6,11 @@
 #![tactic(auto)]
 
 use aegis_pages::{DEFAULT_PAGE_BYTES, Nonces, SealedPages};
-use aegis_storage::Storage;
+use aegis_storage::{JournalFile, Storage};
 use std::alloc::Global;
 use std::fs::File;
 use std::io::Read;
+use std::path::Path;
 use std::{env, io};
 
 // A real program reads its key from where it is kept.
@@ -95,6 +96,14 @@ fn open_file(rt: &HostRuntime, path: &str) -> io::Result<File> {
         .open(rt, path)
 }
 
+// The name of the folder that a file is in.
+fn folder(file: &str) -> &str {
+    match Path::new(file).parent() {
+        Some(folder) if !folder.as_str().is_empty() => folder.as_str(),
+        _ => ".",
+    }
+}
+
 fn main(rt: HostRuntime) -> anyhow::Result<()> {
     let mut arguments = env::args(&rt)?;
     let (Some(path), Some(journal_path)) = (arguments.nth(1), arguments.nth(0)) else {
@@ -105,7 +114,8 @@ fn main(rt: HostRuntime) -> anyhow::Result<()> {
         return Ok(());
     };
     let file = open_file(&rt, &path)?;
-    let journal = open_file(&rt, &journal_path)?;
+    let copy_path = format!(in rt.alloc(); "{journal_path}.copy")?;
+    let journal = JournalFile::open(&rt, &journal_path, &copy_path, folder(&journal_path))?;
     let mut pages = if file.size()? == 0 {
         create(&rt, file, journal)?
     } else {

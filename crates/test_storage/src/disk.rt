@@ -99,8 +99,8 @@ impl Storage for TestDisk {
         Ok(())
     }
 
-    fn rewrite(&mut self, _all: &[u8]) -> io::Result<()> {
-        self.count()
+    fn replace(&mut self, _all: &[u8]) -> io::Result<()> {
+        self.sync()
     }
 
     fn sync(&mut self) -> io::Result<()> {

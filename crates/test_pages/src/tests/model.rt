@@ -55,10 +55,10 @@ impl Storage for Place {
         }
     }
 
-    fn rewrite(&mut self, all: &[u8]) -> io::Result<()> {
+    fn replace(&mut self, all: &[u8]) -> io::Result<()> {
         match self {
-            Place::Memory(_) => Ok(()),
-            Place::Disk(file) => file.rewrite(all),
+            Place::Memory(bytes) => bytes.replace(all),
+            Place::Disk(file) => file.replace(all),
         }
     }
 

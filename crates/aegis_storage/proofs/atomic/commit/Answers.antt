@@ -1,45 +1,41 @@
-use Rattle.std.proofs.Common.{◌≡◌, ◌++◌, ◌∙◌, ap, arith, inr, length, refl, take, List, ℕ}
+use Rattle.std.proofs.Common.{◌≡◌, ◌++◌, ◌∙◌, ap, arith, length, take, List, ℕ}
 use Rattle.std.proofs.lemmas.List.{take_at}
-use Rattle.aegis_storage.specs.Journal.{IsJournal}
 use Rattle.aegis_storage.specs.Disk.{writes_of}
-use Rattle.aegis_storage.proofs.Disks.{on_ok_map}
-use Rattle.aegis_storage.proofs.Journals.{emptied_beginning, finish, middle, over_gives, torn_journal}
+use Rattle.aegis_storage.specs.Journal.{IsJournal, entries}
+use Rattle.aegis_storage.proofs.Driving.{commit_ended, commit_stopped, commit_stopped_begins, on_ok_both}
+use Rattle.aegis_storage.proofs.Journals.{all_within, length-framed}
 use Rattle.aegis_storage.proofs.atomic.commit.Goals as goal
 
 begins : (beginning bytes rest : List ℕ) → length beginning ≡ 512 → bytes ≡ beginning ++ rest → take 512 bytes ≡ beginning
 begins beginning bytes rest long is = ap (take 512) is ∙ take_at beginning rest 512 long
 
-pub returns-in_err-write_journal-clause-recovers : goal.returns-in_err-write_journal-clause-recovers
-returns-in_err-write_journal-clause-recovers g c xs rest = torn_journal _ _ xs _ _ _ _ rest.storage_is (c.write_journal.ensures.torn rest.journal_is)
-
-pub returns-in_err-write_and_sync-clause-recovers : goal.returns-in_err-write_and_sync-clause-recovers
-returns-in_err-write_and_sync-clause-recovers g c xs rest =
-    let whole : IsJournal c.args.key.now c.args.context.now (writes_of c.args.writes.now) c.deref.result.now = rw c.deref.ensures.value c.in_ok-content.ensures.whole in
-    middle _ _ xs _ c.deref.result.now _ _ (over_gives _ _ xs _ _ xs _ _ _ whole (inr refl) rest.storage_is c.write_and_sync.ensures.pending) (c.in_ok-write_journal.ensures.certain rest.journal_is)
+pub writes_part-content-requires : goal.writes_part-content-requires
+writes_part-content-requires g c =
+    let whole : IsJournal c.args.key.now c.args.context.now (writes_of c.args.writes.now) c.deref.result.now = rw c.deref.ensures.value c.in_ok-whole.ensures.whole in
+    let size = length-framed c.args.key.now c.args.context.now (entries (writes_of c.args.writes.now)) c.deref.result.now whole.framed in omega (arith, size)
 
 pub returns-clause-recovers : goal.returns-clause-recovers
 returns-clause-recovers g c xs rest =
-    let whole : IsJournal c.args.key.now c.args.context.now (writes_of c.args.writes.now) c.deref.result.now = rw c.deref.ensures.value c.in_ok-content.ensures.whole in
-    finish _ _ xs _ c.deref.result.now _ _ _ _ (over_gives _ _ xs _ _ xs _ _ _ whole (inr refl) rest.storage_is c.write_and_sync.ensures.pending)
-    (c.in_ok-write_and_sync.ensures.certain xs rest.storage_is) (inr refl) (c.in_ok-write_journal.ensures.certain rest.journal_is) c.empty.ensures.pending
-
-pub returns-clause-at_rest : goal.returns-clause-at_rest
-returns-clause-at_rest g c =
-    on_ok_map c.empty.result
-    (λ certainly xs rest. record {
-      storage_is = c.in_ok-write_and_sync.ensures.certain xs rest.storage_is;
-      journal_is = certainly c.deref.result.now (c.in_ok-write_journal.ensures.certain rest.journal_is);
-    })
-    c.empty.ensures.certain
-
-pub returns-in_err-write_journal-clause-beginning : goal.returns-in_err-write_journal-clause-beginning
-returns-in_err-write_journal-clause-beginning g c empty =
-    let beginning = begins c.args.beginning.now c.deref.result.now _ (omega arith) (c.deref.ensures.value ∙ c.in_ok-content.ensures.journal) in rw (← beginning) (c.write_journal.ensures.torn empty)
-
-pub returns-in_err-write_and_sync-clause-beginning : goal.returns-in_err-write_and_sync-clause-beginning
-returns-in_err-write_and_sync-clause-beginning g c empty =
-    let beginning = begins c.args.beginning.now c.deref.result.now _ (omega arith) (c.deref.ensures.value ∙ c.in_ok-content.ensures.journal) in rw (← beginning) (c.write_journal.ensures.torn empty)
+    let part : IsJournal c.args.key.now c.args.context.now (writes_of c.args.writes.now) c.deref.result.now = rw c.deref.ensures.value c.in_ok-whole.ensures.whole in
+    let whole : IsJournal c.args.key.now c.args.context.now (writes_of c.args.writes.now) c.deref-2.result.now = rw c.deref-2.ensures.value c.in_ok-whole.ensures.whole in
+    commit_stopped c.args.key.now c.args.context.now xs c.deref-2.result.now (writes_of c.args.writes.now) _ _ _ _ _ _ (g.met.S.Storage.possible c.args.storage.now) (g.met.J.Storage.possible c.args.journal.now) whole rest
+    (c.take_steps.ensures.stopped (writes_of c.args.writes.now) (all_within c.args.writes.now) (c.writes_part-content.ensures _ _ _ part.framed))
 
 pub returns-clause-beginning : goal.returns-clause-beginning
 returns-clause-beginning g c empty =
-    emptied_beginning c.args.beginning.now c.deref.result.now _ _ (inr (begins _ c.deref.result.now _ (omega arith) (c.deref.ensures.value ∙ c.in_ok-content.ensures.journal))) (c.in_ok-write_journal.ensures.certain empty) c.empty.ensures.pending
+    let part : IsJournal c.args.key.now c.args.context.now (writes_of c.args.writes.now) c.deref.result.now = rw c.deref.ensures.value c.in_ok-whole.ensures.whole in
+    let whole : IsJournal c.args.key.now c.args.context.now (writes_of c.args.writes.now) c.deref-2.result.now = rw c.deref-2.ensures.value c.in_ok-whole.ensures.whole in
+    let beginning = begins c.args.beginning.now c.deref-2.result.now _ (omega arith) (c.deref-2.ensures.value ∙ c.in_ok-whole.ensures.journal) in
+    commit_stopped_begins c.args.key.now c.args.context.now c.deref-2.result.now c.args.beginning.now (writes_of c.args.writes.now) _ _ _ _ _ _ (g.met.J.Storage.possible c.args.journal.now) whole beginning empty
+    (c.take_steps.ensures.stopped (writes_of c.args.writes.now) (all_within c.args.writes.now) (c.writes_part-content.ensures _ _ _ part.framed))
+
+pub returns-clause-at_rest : goal.returns-clause-at_rest
+returns-clause-at_rest g c =
+    let part : IsJournal c.args.key.now c.args.context.now (writes_of c.args.writes.now) c.deref.result.now = rw c.deref.ensures.value c.in_ok-whole.ensures.whole in
+    let whole : IsJournal c.args.key.now c.args.context.now (writes_of c.args.writes.now) c.deref-2.result.now = rw c.deref-2.ensures.value c.in_ok-whole.ensures.whole in
+    let is : c.writes_part-content.result.now ≡ entries (writes_of c.args.writes.now) = c.writes_part-content.ensures _ _ _ part.framed in
+    on_ok_both c.take_steps.result
+    (λ storage journal xs rest.
+    commit_ended c.args.key.now c.args.context.now xs c.deref-2.result.now (writes_of c.args.writes.now) _ _ _ _ _ _ _ _ (g.met.S.Storage.possible c.args.storage.now) (g.met.J.Storage.possible c.args.journal.now) whole
+    (storage (writes_of c.args.writes.now) (all_within c.args.writes.now) is) (journal (writes_of c.args.writes.now) (all_within c.args.writes.now) is) rest)
+    c.take_steps.ensures.storage c.take_steps.ensures.journal

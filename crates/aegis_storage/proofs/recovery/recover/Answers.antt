@@ -1,36 +1,41 @@
-use Rattle.aegis_storage.specs.Disk.{after_writes}
+use Rattle.std.proofs.Common.{◌∙◌, List, ℕ, subst, sym}
+use Rattle.aegis_storage.specs.Steps.{AreRedone}
 use Rattle.aegis_storage.proofs.Disks.{on_ok_map}
-use Rattle.aegis_storage.proofs.Journals.{emptied_beginning, synced_beginning, finish, middle, settled}
+use Rattle.aegis_storage.proofs.Driving.{on_ok_both, recover_begins, recover_ended, recover_known, recover_starts, recover_stopped}
 use Rattle.aegis_storage.proofs.recovery.recover.Goals as goal
 
-pub returns-in_err-redo-clause-recovers : goal.returns-in_err-redo-clause-recovers
-returns-in_err-redo-clause-recovers g c xs writes no_forgery recovers =
-    let s = settled _ _ xs writes _ _ _ _ _ _ c.in_ok-content.content.items c.deref.result.now
-    (g.met.S.Storage.possible c.args.storage.now) (g.met.J.Storage.possible c.args.journal.now) recovers no_forgery
-    c.in_ok-sync.ensures.certain c.in_ok-content.ensures.certain c.in_ok-content.ensures.read c.deref.ensures.value in
-    middle _ _ xs writes c.deref.result.now _ _ (c.redo.ensures.torn xs (after_writes writes xs) s.now s.storage_is s.gives) s.journal_is
+pub returns-clause-recovered : goal.returns-clause-recovered
+returns-clause-recovered g c =
+    let found = c.redone-content.ensures in
+    on_ok_map c.take_steps.result
+    (λ written. recover_known c.args.key.now c.args.context.now found.0 _ _ _ c.in_ok-whole.whole.items c.deref.result.now c.in_ok-whole.ensures c.deref.ensures.value found.3 (written found.0 found.1 found.2))
+    c.take_steps.ensures.written
 
 pub returns-clause-recovers : goal.returns-clause-recovers
 returns-clause-recovers g c xs writes no_forgery recovers =
-    let s = settled _ _ xs writes _ _ _ _ _ _ c.in_ok-content.content.items c.deref.result.now
-    (g.met.S.Storage.possible c.args.storage.now) (g.met.J.Storage.possible c.args.journal.now) recovers no_forgery
-    c.in_ok-sync.ensures.certain c.in_ok-content.ensures.certain c.in_ok-content.ensures.read c.deref.ensures.value in
-    let redone = c.in_ok-redo.ensures.certain s.now s.storage_is in
-    finish _ _ xs writes c.deref.result.now redone.0 _ _ _ (c.redo.ensures.torn xs (after_writes writes xs) s.now s.storage_is s.gives) redone.1 (redone.2 xs (after_writes writes xs) s.gives)
-    s.journal_is c.empty.ensures.pending
-
-pub returns-clause-at_rest : goal.returns-clause-at_rest
-returns-clause-at_rest g c =
-    on_ok_map c.empty.result
-    (λ certainly xs writes no_forgery recovers.
-    let s = settled _ _ xs writes _ _ _ _ _ _ c.in_ok-content.content.items c.deref.result.now
-    (g.met.S.Storage.possible c.args.storage.now) (g.met.J.Storage.possible c.args.journal.now) recovers no_forgery
-    c.in_ok-sync.ensures.certain c.in_ok-content.ensures.certain c.in_ok-content.ensures.read c.deref.ensures.value in
-    let redone = c.in_ok-redo.ensures.certain s.now s.storage_is in
-    record { bytes = redone.0; one = redone.2 xs (after_writes writes xs) s.gives; rests = record { storage_is = redone.1; journal_is = certainly c.deref.result.now s.journal_is } })
-    c.empty.ensures.certain
+    let found = c.redone-content.ensures in
+    let redone : AreRedone c.args.key.now c.args.context.now c.deref-2.result.now found.0 =
+    subst (λ (l : List ℕ). AreRedone c.args.key.now c.args.context.now l found.0) (c.deref.ensures.value ∙ sym c.deref-2.ensures.value) found.3 in
+    recover_stopped c.args.key.now c.args.context.now xs writes found.0 _ _ _ _ _ _ c.deref-2.result.now
+    (recover_starts c.args.key.now c.args.context.now xs writes found.0 _ _ _ _ c.in_ok-whole.whole.items c.deref-2.result.now (g.met.S.Storage.possible c.args.storage.now) (g.met.J.Storage.possible c.args.journal.now)
+    c.in_ok-whole.ensures c.deref-2.ensures.value redone no_forgery recovers)
+    (c.take_steps.ensures.stopped found.0 found.1 found.2)
 
 pub returns-clause-beginning : goal.returns-clause-beginning
 returns-clause-beginning g c beginning keeps =
-    let s = synced_beginning beginning _ _ _ (g.met.J.Storage.possible c.args.journal.now) keeps c.in_ok-content.ensures.certain in
-    emptied_beginning beginning s.bytes _ _ s.has s.is c.empty.ensures.pending
+    let found = c.redone-content.ensures in
+    recover_begins beginning found.0 _ _ _ _ _ _ c.in_ok-whole.whole.items c.deref-2.result.now (g.met.J.Storage.possible c.args.journal.now) c.in_ok-whole.ensures c.deref-2.ensures.value keeps
+    (c.take_steps.ensures.stopped found.0 found.1 found.2)
+
+pub returns-clause-at_rest : goal.returns-clause-at_rest
+returns-clause-at_rest g c =
+    let found = c.redone-content.ensures in
+    let redone : AreRedone c.args.key.now c.args.context.now c.deref-2.result.now found.0 =
+    subst (λ (l : List ℕ). AreRedone c.args.key.now c.args.context.now l found.0) (c.deref.ensures.value ∙ sym c.deref-2.ensures.value) found.3 in
+    on_ok_both c.take_steps.result
+    (λ storage journal xs writes no_forgery recovers.
+    recover_ended c.args.key.now c.args.context.now xs writes found.0 _ _ _ _ _ _ _ _ c.deref-2.result.now
+    (recover_starts c.args.key.now c.args.context.now xs writes found.0 _ _ _ _ c.in_ok-whole.whole.items c.deref-2.result.now (g.met.S.Storage.possible c.args.storage.now) (g.met.J.Storage.possible c.args.journal.now)
+    c.in_ok-whole.ensures c.deref-2.ensures.value redone no_forgery recovers)
+    (storage found.0 found.1 found.2) (journal found.0 found.1 found.2))
+    c.take_steps.ensures.storage c.take_steps.ensures.journal
