@@ -19,7 +19,7 @@ FOLDER = $(or $(FOLDER_$(TARGET)),$(error TARGET is x86_64-unknown-linux-gnu or 
 LIBRARY = $(OUT)/$(FOLDER)/libhunkravy.a
 
 STORED_LINES = crates/test_agreement/data
-OWN_HEADERS = hunkravy.h hunkravy_records.h hunkravy_pages.h
+OWN_HEADERS = hunkravy.h hunkravy_records.h hunkravy_pages.h hunkravy_file.h
 HEADERS = $(OWN_HEADERS) hunkravy_sodium.h
 C_EXAMPLES = $(basename $(notdir $(sort $(wildcard c/examples/*.c))))
 
@@ -29,7 +29,7 @@ EXPORTS = sed -nE 's/^(HUNKRAVY_MUST_USE )?(int|size_t|uint32_t|uint64_t|void|co
 # ---- The library
 
 # What join.sh adds to a build.
-CALLS = $(wildcard c/library/* c/levels/*) $(OWN_HEADERS:%=c/include/%)
+CALLS = $(wildcard c/library/* c/file/* c/levels/*) $(OWN_HEADERS:%=c/include/%)
 
 c-library: $(LIBRARY)
 
@@ -131,12 +131,16 @@ check-header:
 # The C programs: the examples, and the tests but those with a rule of their own. They read the stored lines.
 C_TESTS = $(filter-out check_time check_wipe,$(basename $(notdir $(sort $(wildcard c/tests/*.c)))))
 C_PROGRAMS = $(C_EXAMPLES) $(C_TESTS)
+# The tests of files let allocations and calls of the system fail.
+WRAPS = $$(case $$program in \
+	check_file) printf ' -Wl,--wrap=%s' malloc calloc ;; \
+	check_posix) printf ' -Wl,--wrap=%s' pwrite fsync ftruncate fallocate rename unlink flock fchown ;; esac)
 
 # The archive has the calls of the headers, and no other name that is not local.
 check-c-%: $(OUT)/%/libhunkravy.a
 	diff <($(EXPORTS) | sort) <($(TOOLS_$*)nm --defined-only -g $< | awk 'NF == 3 { print $$3 }' | sort)
 	for program in $(C_PROGRAMS); do \
-		$(TOOLS_$*)$(CC) -std=c99 $(C_FLAGS) -O2 c/[et]*/$$program.c $< -o $(OUT)/$*/$$program && \
+		$(TOOLS_$*)$(CC) -std=c99 $(C_FLAGS) -O2 c/[et]*/$$program.c $< $(WRAPS) -o $(OUT)/$*/$$program && \
 		LEVEL=$(if $(filter both,$*),,$(or $(patsubst x86-64-v%,%,$(filter x86%,$*)),0)) \
 			$(RUN_$*) $(OUT)/$*/$$program $(STORED_LINES) || exit 1; \
 	done
@@ -153,11 +157,11 @@ SANITIZED = $(OUT)/sanitized
 
 check-sanitized: $(OUT)/$(SANITIZED_LEVEL)/aegis_c.a
 	mkdir -p $(SANITIZED)
-	cp c/library/* c/levels/choose.c $(SANITIZED)
+	cp c/library/* c/file/* c/levels/choose.c $(SANITIZED)
 	sed -i 's/^int hunkravy_proved_/__attribute__((nonnull)) &/' $(SANITIZED)/proved.h
 	for program in $(C_PROGRAMS); do \
 		$(TOOLS_$(FOLDER))$(CC) -std=c99 $(C_FLAGS) $(SANITIZERS) -DHUNKRAVY_LEVEL=0 c/[et]*/$$program.c $(SANITIZED)/*.c $< \
-			-o $(SANITIZED)/$$program && \
+			$(WRAPS) -o $(SANITIZED)/$$program && \
 		$(RUN_$(FOLDER)) $(SANITIZED)/$$program $(STORED_LINES) || exit 1; \
 	done
 	c/tests/check_records.sh $(RUN_$(FOLDER)) $(SANITIZED)/records
@@ -206,9 +210,9 @@ abi:
 check-level: $(OUT)/both/libhunkravy.a $(OUT)/both/$(SONAME)
 	tools/check_level.sh $^ $(STORED_LINES)
 
-# The tests as C++, which call what the headers have. Exception: the one that includes an example in C.
+# The tests as C++, which call what the headers have. Exception: those of files.
 check-c++: $(OUT)/both/libhunkravy.a
-	for program in $(filter-out check_file,$(C_TESTS)); do \
+	for program in $(filter-out check_file check_posix,$(C_TESTS)); do \
 		$(CC) -std=c++11 $(C_FLAGS) -O2 -x c++ c/tests/$$program.c -x none $< -o $(OUT)/both/$$program++ && \
 		$(OUT)/both/$$program++ $(STORED_LINES) || exit 1; \
 	done

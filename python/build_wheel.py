@@ -30,7 +30,7 @@ HERE = pathlib.Path(__file__).resolve().parent
 ROOT = HERE.parent
 PROJECT = tomllib.loads((HERE / "pyproject.toml").read_text())["project"]
 # The headers that the module includes.
-HEADERS = ("hunkravy.h", "hunkravy_pages.h", "hunkravy_records.h")
+HEADERS = ("hunkravy.h", "hunkravy_file.h", "hunkravy_records.h")
 # The stable interface, of Python 3.11 and later.
 INTERFACE = "cp311-abi3"
 # The oldest glibc that has what the module asks for.
@@ -74,7 +74,7 @@ def native_module(archive: pathlib.Path) -> bytes:
         module = pathlib.Path(folder) / "module.so"
         flags = [*FLAGS, *shlex.split(os.environ.get("CFLAGS", ""))]
         compiler = shlex.split(os.environ.get("CC", "")) or ["cc"]
-        command = [*compiler, *flags, *headers, str(HERE / "native" / "native.c"), str(archive)]
+        command = [*compiler, *flags, *headers, *sorted(map(str, (HERE / "native").glob("*.c"))), str(archive)]
         subprocess.run([*command, *LINK_FLAGS, "-o", str(module)], check=True)
         return module.read_bytes()
 
@@ -173,7 +173,7 @@ def build_editable(wheel_directory: str, config_settings: object = None, metadat
 def build_sdist(sdist_directory: str, config_settings: object = None) -> str:
     """Builds the archive of the sources, with the headers and the library for processors like this one."""
     name = f"hunkravy-{version()}"
-    own = ("build_wheel.py", "pyproject.toml", "native/native.c")
+    own = ("build_wheel.py", "pyproject.toml", *(f"native/{path.name}" for path in sorted((HERE / "native").iterdir())))
     files = sources() | {path: (HERE / path).read_bytes() for path in own}
     files |= {f"include/{header}": (include() / header).read_bytes() for header in HEADERS}
     files |= {"lib/libhunkravy.a": library().read_bytes(), "LICENSE": licence()}

@@ -6,7 +6,7 @@ WHEEL_NAME = $(OUT)/hunkravy-$(VERSION)-cp311-abi3-manylinux_2_17
 WHEEL = $(WHEEL_NAME)_x86_64.whl
 WHEEL_aarch64 = $(WHEEL_NAME)_aarch64.whl
 PACKAGE = python/build_wheel.py python/pyproject.toml python/README.md $(wildcard python/native/* python/hunkravy/*) \
-	c/include/hunkravy.h c/include/hunkravy_pages.h c/include/hunkravy_records.h LICENSE
+	c/include/hunkravy.h c/include/hunkravy_file.h c/include/hunkravy_records.h LICENSE
 
 $(WHEEL): $(OUT)/both/libhunkravy.a $(PACKAGE)
 	CC="$(CC)" CFLAGS=-Werror python3 python/build_wheel.py $(OUT) $< x86_64

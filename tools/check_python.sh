@@ -62,7 +62,7 @@ else
 fi
 
 if command -v clang > /dev/null; then
-    clang --analyze --analyzer-output text -Xclang -analyzer-werror -std=c11 -I../c/include "-I$headers" native/native.c
+    clang --analyze --analyzer-output text -Xclang -analyzer-werror -std=c11 -I../c/include "-I$headers" native/*.c
 else
     echo 'left out: the native module by the analyzer of clang, which is not installed'
 fi

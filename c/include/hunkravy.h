@@ -1,6 +1,7 @@
 /*
  * Hunkravy: the six AEGIS ciphers, and their MACs and keystreams, for Linux on x86-64-v2 or better and on aarch64.
- * Record streams are in hunkravy_records.h, and random-access files in hunkravy_pages.h. No function allocates memory.
+ * Record streams are in hunkravy_records.h, random-access files in hunkravy_file.h, and their pages in hunkravy_pages.h. No
+ * function allocates memory, except those of hunkravy_file.h.
  *
  * Build a program with `cc program.c $(pkg-config --cflags --libs hunkravy)`. If the library is in /some/where, set
  * PKG_CONFIG_PATH to /some/where/lib/pkgconfig first, and LD_LIBRARY_PATH to /some/where/lib to run the program. If it
@@ -104,7 +105,14 @@ enum hunkravy_code {
     /* The length is neither 0 nor that of the message that was decrypted. */
     HUNKRAVY_WRONG_MESSAGE_LENGTH = -14,
     /* A journal is that of another file, or of another state of this one. */
-    HUNKRAVY_WRONG_JOURNAL = -15
+    HUNKRAVY_WRONG_JOURNAL = -15,
+    /* Of files: see hunkravy_file.h. */
+    HUNKRAVY_NO_FILE = -16,
+    HUNKRAVY_DAMAGED_PAGE = -17,
+    HUNKRAVY_FILE_LOCKED = -18,
+    HUNKRAVY_FILE_MOVED = -19,
+    HUNKRAVY_FILE_BROKEN = -20,
+    HUNKRAVY_OPEN_BATCH = -21
 };
 
 /* Returns an error message for a code, in English. */

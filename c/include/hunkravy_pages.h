@@ -1,9 +1,7 @@
 /*
  * Random-access files: contents that are encrypted page by page. These functions encrypt and decrypt a page or a
- * header, and make and read the journal of a commit. Your program reads and writes the file and the journal.
- *
- * A crash while you write MAY LOSE THE FILE, unless you write through a journal: see "The journal" below. The
- * example file.c does so, and so do `raf` of the Cargo package and the Rattle crate `aegis_pages`.
+ * header, and make and read the journal of a commit. USE hunkravy_file.h, which reads and writes the file and the
+ * journal, unless you write an engine of your own: a crash while you write MAY LOSE THE FILE.
  *
  * The contents are split into pages of one size. Each page is encrypted separately, with any variant and a tag of 32
  * bytes. A page decrypts only under its number and the id of its file. An older page of the same number decrypts too.
@@ -105,26 +103,8 @@ HUNKRAVY_MUST_USE int hunkravy_page_header_open(uint32_t variant, const uint8_t 
 
 /* ---- The journal
  *
- * After a crash all writes of a commit are there, or none, if you make the calls as follows. The bytes of the
- * journal, the decision on it, and the order of the calls come from proved functions. What you make of a step is
- * tested, with file.c. RANDOM-ACCESS.md has the model of a crash.
- *
- * To commit, with a journal that is empty, and a file and a journal that are synced:
- *
- * 1. Encrypt the changed pages and the next header. Read the header block of the file. Reserve room for new pages, for
- *    example with posix_fallocate.
- * 2. Make the journal: `start` of hunkravy_journal_init, and then for each write `head` of hunkravy_journal_entry and
- *    its bytes, in this order: the header block of the file as it is, at place 0; each changed page, at its position;
- *    the next header block, at place 0. At the end comes the MAC of hunkravy_journal_final.
- * 3. Take the steps of hunkravy_commit_step.
- *
- * To open a file, or after an error of a commit:
- *
- * 1. If the journal is not empty, sync both, and call posix_fadvise with POSIX_FADV_DONTNEED, so that reads return what
- *    the disk has. Read the journal, and the first HUNKRAVY_PAGE_HEADER_BLOCK_BYTES of the file.
- * 2. hunkravy_journal_check. After an error leave both as they are.
- * 3. Count the writes that hunkravy_journal_next finds, if there are any, and take the steps of
- *    hunkravy_recovery_step. Then read the header of the file.
+ * The bytes of the journal, and the decision on it, come from proved functions. hunkravy_file.h calls them in the order
+ * that makes a commit whole after any crash: c/file/steps.c has it, and RANDOM-ACCESS.md the model of a crash.
  */
 
 #define HUNKRAVY_JOURNAL_NONCE_BYTES 16

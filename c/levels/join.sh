@@ -67,5 +67,14 @@ fi
 compile "$@" -c "$here/choose.c" -o "$work/choose.o"
 "${CC:-gcc}" -r -nostdlib "$work"/*.o -o "$work/hunkravy.o"
 "${OBJCOPY:-objcopy}" --wildcard --localize-symbol='hunkravy_v[23]_*' "$work/hunkravy.o"
+
+# The engine of files is an object of its own, so that a program without files needs no calls of the system. It calls the
+# others by their names in the headers.
+mkdir "$work/file"
+for file in steps contents commit posix; do
+    compile -c "$here/../file/$file.c" -o "$work/file/$file.o"
+done
+"${CC:-gcc}" -r -nostdlib "$work"/file/*.o -o "$work/file.o"
+"${OBJCOPY:-objcopy}" --localize-hidden "$work/file.o"
 rm -f "$out"
-"${AR:-ar}" rcs "$out" "$work/hunkravy.o"
+"${AR:-ar}" rcs "$out" "$work/hunkravy.o" "$work/file.o"

@@ -43,6 +43,18 @@ const char *hunkravy_error_text(int code)
         return "the length is neither 0 nor that of the decrypted message";
     case HUNKRAVY_WRONG_JOURNAL:
         return "the journal is of another file, or of another state of this one";
+    case HUNKRAVY_NO_FILE:
+        return "cannot open the header: wrong key or variant, damaged file, or not a random-access file";
+    case HUNKRAVY_DAMAGED_PAGE:
+        return "a page is damaged";
+    case HUNKRAVY_FILE_LOCKED:
+        return "the file is already open, here or in another process";
+    case HUNKRAVY_FILE_MOVED:
+        return "the file was renamed, removed or replaced, or has several hard links";
+    case HUNKRAVY_FILE_BROKEN:
+        return "a commit failed: open the file again";
+    case HUNKRAVY_OPEN_BATCH:
+        return "a batch has not ended";
     default:
         return "unknown error code";
     }

@@ -273,7 +273,13 @@ static void check_texts(void)
         {HUNKRAVY_FILE_TOO_LONG, "the contents or the page number are too large"},
         {HUNKRAVY_WRONG_MESSAGE_LENGTH, "the length is neither 0 nor that of the decrypted message"},
         {HUNKRAVY_WRONG_JOURNAL, "the journal is of another file, or of another state of this one"},
-        {-16, "unknown error code"},
+        {HUNKRAVY_NO_FILE, "cannot open the header: wrong key or variant, damaged file, or not a random-access file"},
+        {HUNKRAVY_DAMAGED_PAGE, "a page is damaged"},
+        {HUNKRAVY_FILE_LOCKED, "the file is already open, here or in another process"},
+        {HUNKRAVY_FILE_MOVED, "the file was renamed, removed or replaced, or has several hard links"},
+        {HUNKRAVY_FILE_BROKEN, "a commit failed: open the file again"},
+        {HUNKRAVY_OPEN_BATCH, "a batch has not ended"},
+        {-22, "unknown error code"},
     };
 
     for (int i = 0; i < (int)COUNT(TEXTS); i++) {

@@ -1,430 +1,659 @@
 /*
- * The example of a file that survives crashes. A change of three texts is killed at each of its calls, and so is the
- * opening after that. Then both are stopped at any call, any of their syncs fail, and the power fails. Each time the file
- * has all of the change, or none of it.
+ * Random-access files. Random calls are made to a file and to a model of it. A commit and the opening after it are stopped
+ * at each call of the storage, any of their syncs fail, and the power fails: each time the file has all of the change, or
+ * none of it. Each allocation fails by turns.
  *
  *     check_file batches FILE [write]
  *
- * is the program crates/example_batches over the example: it prints the number that all rows of FILE hold, and with
- * `write` it writes the numbers after that, until it is stopped.
+ * is the program crates/example_batches over the library: it prints the number that all rows of FILE hold, and with `write`
+ * it writes the numbers after that, until it is stopped. `check_file COUNT` tries so many random commits.
  */
 #ifndef _DEFAULT_SOURCE
 #define _DEFAULT_SOURCE
 #endif
-#define _POSIX_C_SOURCE 200809L
+#include "check.h"
+#include "hunkravy_file.h"
+
 #include <errno.h>
-#include <fcntl.h>
-#include <libgen.h>
-#include <stdio.h>
-#include <stdlib.h>
-#include <string.h>
-#include <sys/random.h>
 #include <sys/wait.h>
 #include <unistd.h>
 
-/* ---- Calls that are counted: once no more are left, each fails, or ends the process */
+static const uint8_t key[HUNKRAVY_AEGIS256_KEY_BYTES] = {7, 7, 7};
 
-enum { ALL_CALLS = 1000000, KILLED = 9, MOST_STORED = 40000, MOST_WRITES = 64 };
+static uint64_t drawn = 88172645463325252u;
 
-static int calls_left = ALL_CALLS, syncs_left = ALL_CALLS, is_killed;
-
-static int is_made(void)
+static uint64_t draw(uint64_t below)
 {
-    if (calls_left-- > 0) {
+    drawn ^= drawn << 13;
+    drawn ^= drawn >> 7;
+    drawn ^= drawn << 17;
+    return drawn % below;
+}
+
+/* ---- Allocations that fail, if the program is linked with --wrap */
+
+static long allocations_left = -1;
+
+void *__real_malloc(size_t length) __attribute__((weak));
+void *__real_calloc(size_t count, size_t length) __attribute__((weak));
+void *__wrap_malloc(size_t length);
+void *__wrap_calloc(size_t count, size_t length);
+
+static int is_refused(void)
+{
+    return allocations_left >= 0 && allocations_left-- == 0;
+}
+
+void *__wrap_malloc(size_t length)
+{
+    /* A sanitizer ends the program for so much. */
+    int is_too_much = length >> 40 != 0;
+    return is_refused() || is_too_much ? (errno = ENOMEM, (void *)NULL) : __real_malloc(length);
+}
+
+void *__wrap_calloc(size_t count, size_t length)
+{
+    return is_refused() ? (errno = ENOMEM, (void *)NULL) : __real_calloc(count, length);
+}
+
+/* ---- A disk that may stop, and what it then has */
+
+enum { MOST_STORED = 1 << 17, MOST_DIRTY = 512, STOPPED = 5, ALL = 1 << 30 };
+
+struct part {
+    size_t length, stored_length, dirty_count;
+    uint8_t now[MOST_STORED], stored[MOST_STORED];
+    struct {
+        size_t place, length;
+    } dirty[MOST_DIRTY];
+};
+
+/* Calls are left until it stops, and syncs until one fails. */
+struct disk {
+    struct part part[2];
+    int calls_left, syncs_left, is_locked;
+};
+
+static int is_stopped(struct disk *disk)
+{
+    if (disk->calls_left == 0) {
         return 1;
     }
-    if (is_killed) {
-        _exit(KILLED);
-    }
-    calls_left = 0;
+    disk->calls_left--;
     return 0;
 }
 
-/* ---- What the disk has of the file, of its journal, and of a copy of that */
-
-struct disk {
-    int fd;
-    size_t length, writes;
-    unsigned char stored[MOST_STORED];
-    struct {
-        size_t place, length;
-    } dirty[MOST_WRITES];
-};
-
-enum { JOURNAL = 1, COPY, DISKS };
-
-static struct disk disks[DISKS];
-
-/* The journal that the disk has until the folder is synced after a rename. */
-static struct disk replaced;
-static int is_replaced;
-
-static struct disk *disk_of(int fd)
+static void mark(struct part *part, size_t place, size_t length)
 {
-    for (size_t i = 0; i < DISKS; i++) {
-        if (disks[i].fd == fd && fd > 0) {
-            return &disks[i];
-        }
-    }
-    return NULL;
+    HOLDS(part->dirty_count < MOST_DIRTY);
+    part->dirty[part->dirty_count].place = place;
+    part->dirty[part->dirty_count++].length = length;
 }
 
-/* Stores the dirty parts: all of them, or each sector and the length by chance. */
-static void store(struct disk *disk, int is_all)
+/* Stores the dirty bytes: all of them, or each sector old, new, torn or garbage, and the old length or the new one. */
+static void store(struct part *part, int is_all)
 {
-    static unsigned char now[MOST_STORED];
-    ssize_t length = pread(disk->fd, now, sizeof now, 0);
+    size_t length = is_all || draw(2) ? part->length : part->stored_length;
 
-    for (size_t i = 0; i < disk->writes; i++) {
-        size_t end = disk->dirty[i].place + disk->dirty[i].length;
-        for (size_t at = disk->dirty[i].place, next; at < end; at = next) {
+    for (size_t at = part->stored_length; at < length; at++) {
+        part->stored[at] = is_all || draw(2) ? 0 : (uint8_t)draw(256);
+    }
+    for (size_t i = 0; i < part->dirty_count; i++) {
+        size_t end = part->dirty[i].place + part->dirty[i].length;
+        uint64_t habit = draw(8);
+        for (size_t at = part->dirty[i].place, next; at < end; at = next) {
+            uint64_t kind = is_all ? 0 : habit < 4 ? habit : draw(4);
             next = (at / 512 + 1) * 512 < end ? (at / 512 + 1) * 512 : end;
-            if (is_all || rand() % 2 == 0) {
-                memcpy(disk->stored + at, now + at, next - at);
+            if (kind == 0 || kind == 2) {
+                memcpy(part->stored + at, part->now + at, (next - at) >> (kind == 2 ? draw(9) : 0));
+            }
+            if (kind == 3) {
+                for (size_t j = at; j < next; j++) {
+                    part->stored[j] = (uint8_t)draw(256);
+                }
             }
         }
     }
-    if (is_all || rand() % 2 == 0) {
-        disk->length = length < 0 ? 0 : (size_t)length;
-    }
-    disk->writes = 0;
+    part->stored_length = length;
+    part->dirty_count = 0;
 }
 
-static int counted_open(const char *path, int flags, ...);
-
-static ssize_t counted_pwrite(int fd, const void *bytes, size_t length, off_t place)
+/* The power fails: what can be read is what is stored. */
+static void crash(struct disk *disk)
 {
-    struct disk *disk = disk_of(fd);
+    for (int i = 0; i < 2; i++) {
+        struct part *part = &disk->part[i];
+        store(part, 0);
+        memcpy(part->now, part->stored, part->stored_length);
+        part->length = part->stored_length;
+    }
+    disk->is_locked = 0;
+    disk->calls_left = disk->syncs_left = ALL;
+}
 
-    if (!is_made()) {
-        return -1;
+static int disk_read(void *context, enum hunkravy_part which, uint64_t place, uint8_t *bytes, size_t length)
+{
+    const struct part *part = &((struct disk *)context)->part[which];
+    if (place > part->length || length > part->length - place) {
+        return HUNKRAVY_DAMAGED_PAGE;
     }
-    if (disk != NULL) {
-        disk->dirty[disk->writes].place = (size_t)place;
-        disk->dirty[disk->writes++].length = length;
+    memcpy(bytes, part->now + place, length);
+    return 0;
+}
+
+static int disk_write(void *context, enum hunkravy_part which, uint64_t place, const uint8_t *bytes, size_t length)
+{
+    struct disk *disk = (struct disk *)context;
+    struct part *part = &disk->part[which];
+    int stops = is_stopped(disk);
+    HOLDS(place + length <= MOST_STORED);
+    if (stops && (disk->is_locked != 1 || draw(2))) {
+        return STOPPED;
     }
-    return pwrite(fd, bytes, length, place);
+    if (place > part->length) {
+        memset(part->now + part->length, 0, place - part->length);
+        mark(part, part->length, place - part->length);
+    }
+    memcpy(part->now + place, bytes, length);
+    part->length = place + length > part->length ? place + length : part->length;
+    mark(part, place, length);
+    /* The first write that is not made may be made in part. */
+    disk->is_locked += stops;
+    return stops ? STOPPED : 0;
+}
+
+static int disk_size(void *context, enum hunkravy_part which, uint64_t *size)
+{
+    *size = ((struct disk *)context)->part[which].length;
+    return 0;
+}
+
+static int disk_resize(void *context, enum hunkravy_part which, uint64_t size)
+{
+    struct disk *disk = (struct disk *)context;
+    if (is_stopped(disk)) {
+        return STOPPED;
+    }
+    HOLDS(which == HUNKRAVY_PART_JOURNAL && size == 0);
+    disk->part[which].length = 0;
+    return 0;
 }
 
 /* A sync that fails is as those of Linux: what it has not stored can be read, and no later sync stores it. */
-static int counted_fsync(int fd)
+static int disk_sync(void *context, enum hunkravy_part which)
 {
-    struct disk *disk = disk_of(fd);
-    int is_right = is_made() && syncs_left-- != 0;
-
-    if (disk != NULL) {
-        store(disk, is_right);
-    } else if (is_right) {
-        is_replaced = 0;
+    struct disk *disk = (struct disk *)context;
+    int fails;
+    if (is_stopped(disk)) {
+        return STOPPED;
     }
-    return is_right ? 0 : -1;
+    fails = disk->syncs_left-- == 0;
+    store(&disk->part[which], !fails);
+    return fails ? EIO : 0;
 }
 
-static int counted_ftruncate(int fd, off_t length)
+static int disk_forget(void *context, enum hunkravy_part which)
 {
-    return is_made() ? ftruncate(fd, length) : -1;
-}
-
-static int counted_rename(const char *from, const char *to)
-{
-    if (!is_made()) {
-        return -1;
+    struct part *part = &((struct disk *)context)->part[which];
+    int code = disk_sync(context, which);
+    /* By turns it is advice that is not taken. */
+    if (code == 0 && draw(2)) {
+        memcpy(part->now, part->stored, part->stored_length);
+        part->length = part->stored_length;
     }
-    replaced = disks[JOURNAL];
-    disks[JOURNAL] = disks[COPY];
-    is_replaced = 1;
-    return rename(from, to);
+    return code;
 }
 
-static int counted_posix_fallocate(int fd, off_t from, off_t length)
+static int disk_replace(void *context, const uint8_t *bytes, size_t length)
 {
-    return is_made() ? posix_fallocate(fd, from, length) : EIO;
+    struct disk *disk = (struct disk *)context;
+    struct part *part = &disk->part[HUNKRAVY_PART_JOURNAL];
+    if (is_stopped(disk)) {
+        return STOPPED;
+    }
+    memcpy(part->now, bytes, length);
+    memcpy(part->stored, bytes, length);
+    part->length = part->stored_length = length;
+    part->dirty_count = 0;
+    return 0;
 }
 
-#define open counted_open
-#define pwrite counted_pwrite
-#define fsync counted_fsync
-#define ftruncate counted_ftruncate
-#define rename counted_rename
-#define posix_fallocate counted_posix_fallocate
-#define main example
-#include "../examples/file.c"
-#undef main
-#undef open
-#undef pwrite
-#undef ftruncate
-#include "check.h"
-
-static char key_path[64], path[128], journal_path[160], copy_path[160];
-
-static int counted_open(const char *name, int flags, ...)
+static int disk_lock(void *context)
 {
-    int fd = open(name, flags, 0600);
-    const char *names[DISKS] = {path, journal_path, copy_path};
+    struct disk *disk = (struct disk *)context;
+    if (disk->is_locked) {
+        return HUNKRAVY_FILE_LOCKED;
+    }
+    disk->is_locked = 1;
+    return 0;
+}
 
-    for (size_t i = 0; i < DISKS; i++) {
-        if (strcmp(name, names[i]) == 0) {
-            disks[i].fd = fd;
+/* Room is taken at once, as with posix_fallocate: a crash leaves the old length or the new one. */
+static int disk_reserve(void *context, uint64_t from, uint64_t end)
+{
+    struct disk *disk = (struct disk *)context;
+    struct part *part = &disk->part[HUNKRAVY_PART_FILE];
+    if (is_stopped(disk)) {
+        return STOPPED;
+    }
+    if (end > from && end > part->length) {
+        memset(part->now + part->length, 0, end - part->length);
+        part->length = end;
+    }
+    return 0;
+}
+
+static int disk_random(void *context, uint8_t *bytes, size_t length)
+{
+    (void)context;
+    for (size_t i = 0; i < length; i++) {
+        bytes[i] = (uint8_t)draw(256);
+    }
+    return 0;
+}
+
+static void disk_close(void *context)
+{
+    ((struct disk *)context)->is_locked = 0;
+}
+
+static struct hunkravy_storage over(struct disk *disk)
+{
+    struct hunkravy_storage storage = {disk, disk_read, disk_write, disk_size, disk_resize, disk_sync, disk_replace,
+        disk_forget, disk_lock, NULL, disk_reserve, disk_random, disk_close};
+    return storage;
+}
+
+/* ---- A file and its model */
+
+enum { MOST_CONTENTS = 1 << 14 };
+
+struct model {
+    size_t length;
+    uint8_t bytes[MOST_CONTENTS];
+};
+
+static void check_equal(hunkravy_file *file, const struct model *model)
+{
+    static uint8_t found[MOST_CONTENTS + 1];
+    size_t length = 0, from = model->length == 0 ? 0 : draw(model->length), count = draw(2000);
+    HOLDS(hunkravy_file_size(file) == model->length);
+    HOLDS(hunkravy_file_read(file, 0, found, sizeof found, &length) == 0 && length == model->length);
+    HOLDS(memcmp(found, model->bytes, length) == 0);
+    HOLDS(hunkravy_file_read(file, from, found, count, &length) == 0);
+    HOLDS(length == (count < model->length - from ? count : model->length - from));
+    HOLDS(memcmp(found, model->bytes + from, length) == 0);
+}
+
+static void set_length(struct model *model, size_t length)
+{
+    if (length > model->length) {
+        memset(model->bytes + model->length, 0, length - model->length);
+    }
+    model->length = length;
+}
+
+/* Makes a random change, and returns its result. If it is made, the model has it too. */
+static int change(hunkravy_file *file, struct model *model, size_t most)
+{
+    static uint8_t data[2000];
+    size_t place = draw(most), length = draw(draw(4) ? 300 : sizeof data);
+    int code;
+    if (draw(6) == 0) {
+        code = hunkravy_file_truncate(file, place);
+        if (code == 0) {
+            set_length(model, place);
         }
+        return code;
     }
-    return fd;
-}
-
-/* ---- A change that is killed */
-
-enum { TEXTS = 3 };
-
-static void end(struct file *file)
-{
-    close(file->fd);
-    close(file->journal);
-    close(file->folder);
-}
-
-/* Sets three texts at once, each to bytes of a letter. */
-static int set_texts(char letter)
-{
-    static uint8_t pages[TEXTS][PAGE_BYTES];
-    struct file file = {.fd = -1};
-    struct write writes[TEXTS + 2];
-    int result = begin(&file, key_path, path, O_CREAT);
-
-    for (uint64_t i = 0; result && i < TEXTS; i++) {
-        memset(pages[i] + NONCE_BYTES, letter, SIZE);
-        result = seal_page(&file, pages[i], i, &writes[i + 1]);
+    memset(data, (int)draw(256), length);
+    code = hunkravy_file_write(file, place, data, length);
+    if (code == 0 && (length != 0 || place > model->length)) {
+        if (place + length > model->length) {
+            set_length(model, place + length);
+        }
+        memcpy(model->bytes + place, data, length);
     }
-    result = result && commit(&file, writes, TEXTS + 1, TEXTS * SIZE);
-    end(&file);
-    return result;
+    return code;
 }
 
-/* Opens the file, and returns the letter that all three texts have. */
-static int letter_of_texts(char unused)
+/* Makes random calls, with batches in batches. */
+static void check_calls(uint32_t variant, uint32_t page_size)
 {
-    static uint8_t page[PAGE_BYTES];
-    struct file file = {.fd = -1};
-    int letter = 0;
+    enum { DEPTH = 5 };
+    static struct disk disk;
+    static struct model model, committed, saved[DEPTH];
+    uint64_t batches[DEPTH] = {0}, depth = 0;
+    struct hunkravy_storage storage = over(&disk);
+    size_t klen = hunkravy_key_bytes(variant);
+    hunkravy_file *file;
 
-    (void)unused;
-    HOLDS(begin(&file, key_path, path, O_CREAT) && file.length == TEXTS * SIZE);
-    for (uint64_t i = 0; i < TEXTS; i++) {
-        HOLDS(read_page(&file, page, i) && all_are(page + NONCE_BYTES, SIZE, page[NONCE_BYTES]));
-        HOLDS(i == 0 || letter == page[NONCE_BYTES]);
-        letter = page[NONCE_BYTES];
+    memset(&disk, 0, sizeof disk);
+    disk.calls_left = disk.syncs_left = ALL;
+    model.length = committed.length = 0;
+    HOLDS(hunkravy_file_create_in(&file, &storage, variant, key, klen, page_size) == 0);
+    for (int turn = 0; turn < 3000; turn++) {
+        uint64_t kind = draw(20), to;
+        if (kind < 10) {
+            HOLDS(change(file, &model, 12000) == 0);
+        } else if (kind < 12 && depth < DEPTH) {
+            saved[depth] = model;
+            HOLDS(hunkravy_file_begin(file, &batches[depth++]) == 0);
+        } else if (kind < 14 && depth > 0) {
+            to = draw(depth);
+            hunkravy_file_undo(file, batches[to]);
+            model = saved[depth = to];
+        } else if (kind < 16 && depth > 0) {
+            to = draw(4) ? depth - 1 : draw(depth);
+            if (to == depth - 1) {
+                HOLDS(hunkravy_file_end(file, batches[--depth]) == 0);
+                committed = depth == 0 ? model : committed;
+            } else {
+                HOLDS(hunkravy_file_end(file, batches[to]) == HUNKRAVY_OPEN_BATCH);
+                model = saved[depth = to];
+            }
+            HOLDS(hunkravy_file_end(file, batches[to]) == HUNKRAVY_WRONG_STATE);
+        } else if (kind == 16) {
+            HOLDS(hunkravy_file_commit(file) == (depth == 0 ? 0 : HUNKRAVY_OPEN_BATCH));
+            committed = depth == 0 ? model : committed;
+        } else if (kind == 17 && draw(4) == 0) {
+            hunkravy_file_discard(file);
+            model = committed;
+            depth = 0;
+        } else if (kind == 18 && draw(4) == 0) {
+            HOLDS(hunkravy_file_close(file) == (depth == 0 ? 0 : HUNKRAVY_OPEN_BATCH));
+            model = committed = depth == 0 ? model : committed;
+            depth = 0;
+            HOLDS(hunkravy_file_open_in(&file, &storage, variant, key, klen) == 0);
+        }
+        HOLDS(hunkravy_file_is_in_batch(file) == (depth > 0));
+        check_equal(file, &model);
     }
-    end(&file);
-    return letter;
+    hunkravy_file_discard(file);
+    HOLDS(hunkravy_file_close(file) == 0);
 }
 
-/* Opens the file, which may fail. */
-static int open_texts(char unused)
-{
-    struct file file = {.fd = -1};
-    int result = begin(&file, key_path, path, O_CREAT);
+/* ---- Crashes */
 
-    (void)unused;
-    end(&file);
-    return result;
+static unsigned long states, changed_states;
+
+/* Opens what a crash has left, and stops that by turns. The contents are then those before, or after. */
+static void check_left(const struct disk *left, const struct model *before, const struct model *after)
+{
+    static struct disk disk;
+    static uint8_t found[MOST_CONTENTS + 1];
+    struct hunkravy_storage storage = over(&disk);
+    hunkravy_file *file;
+    size_t length = 0;
+    int is_after;
+
+    disk = *left;
+    crash(&disk);
+    states++;
+    /* The opening is stopped a few times, and each time the power fails. */
+    while (draw(3) != 0) {
+        disk.calls_left = (int)draw(14);
+        disk.syncs_left = draw(4) == 0 ? (int)draw(8) : ALL;
+        if (hunkravy_file_open_in(&file, &storage, HUNKRAVY_AEGIS256, key, sizeof key) == 0) {
+            hunkravy_file_discard(file);
+            HOLDS(hunkravy_file_close(file) == 0);
+        }
+        if (draw(4) != 0) {
+            crash(&disk);
+            states++;
+        }
+        disk.calls_left = disk.syncs_left = ALL;
+    }
+    HOLDS(hunkravy_file_open_in(&file, &storage, HUNKRAVY_AEGIS256, key, sizeof key) == 0);
+    HOLDS(disk.part[HUNKRAVY_PART_JOURNAL].length == 0 && disk.part[HUNKRAVY_PART_JOURNAL].stored_length == 0);
+    HOLDS(hunkravy_file_read(file, 0, found, sizeof found, &length) == 0);
+    is_after = length == after->length && memcmp(found, after->bytes, length) == 0;
+    HOLDS(is_after || (before != NULL && length == before->length && memcmp(found, before->bytes, length) == 0));
+    changed_states += (unsigned long)is_after;
+    HOLDS(hunkravy_file_close(file) == 0);
 }
 
-/* Returns what a function returns in a process of its own, or KILLED if it is killed after so many calls. */
-static int in_child(int (*function)(char), char letter, int calls)
+/* Commits a random change to a copy of a disk, which stops after so many calls, or at a sync that fails. */
+static int commit_once(
+    const struct disk *from, const struct model *before, struct model *after, uint64_t seed, int calls, int syncs)
 {
+    static struct disk disk;
+    struct hunkravy_storage storage = over(&disk);
+    uint64_t kept;
+    hunkravy_file *file;
+    int code;
+
+    disk = *from;
+    HOLDS(hunkravy_file_open_in(&file, &storage, HUNKRAVY_AEGIS256, key, sizeof key) == 0);
+    kept = drawn;
+    drawn = seed;
+    *after = *before;
+    for (uint64_t count = 1 + draw(4); count > 0; count--) {
+        HOLDS(change(file, after, 6000) == 0);
+    }
+    drawn ^= kept | 1;
+    disk.calls_left = calls;
+    disk.syncs_left = syncs;
+    code = hunkravy_file_commit(file);
+    HOLDS(code == 0 || code == STOPPED || code == EIO);
+    if (code != 0 && hunkravy_file_check(file) == HUNKRAVY_OK) {
+        check_equal(file, after);
+        hunkravy_file_discard(file);
+        check_equal(file, before);
+    }
+    disk.calls_left = 0;
+    hunkravy_file_discard(file);
+    code = hunkravy_file_close(file) == HUNKRAVY_FILE_BROKEN ? STOPPED : code;
+    for (int i = 0; i < 6; i++) {
+        check_left(&disk, code == 0 ? NULL : before, after);
+    }
+    return code == 0;
+}
+
+static void check_crashes(unsigned long commits)
+{
+    static struct disk disk;
+    static struct model model, after;
+    struct hunkravy_storage storage = over(&disk);
+    hunkravy_file *file;
+
+    disk.calls_left = disk.syncs_left = ALL;
+    HOLDS(hunkravy_file_create_in(&file, &storage, HUNKRAVY_AEGIS256, key, sizeof key, 256) == 0);
+    HOLDS(hunkravy_file_close(file) == 0);
+    for (unsigned long turn = 0; turn < commits; turn++) {
+        uint64_t seed = drawn | 1;
+        int calls = 0;
+        for (int syncs = 0; syncs < 5; syncs++) {
+            commit_once(&disk, &model, &after, seed, ALL, syncs);
+        }
+        while (!commit_once(&disk, &model, &after, seed, calls, ALL)) {
+            HOLDS(++calls < 60);
+        }
+        /* The next commit is to another file: this one with the change. */
+        HOLDS(hunkravy_file_open_in(&file, &storage, HUNKRAVY_AEGIS256, key, sizeof key) == 0);
+        for (int i = 0; i < 3; i++) {
+            HOLDS(change(file, &model, 6000) == 0);
+        }
+        HOLDS(hunkravy_file_close(file) == 0);
+    }
+    HOLDS(changed_states > states / 20 && changed_states < states);
+}
+
+/* ---- Memory that runs out */
+
+static void check_memory(void)
+{
+    static struct disk disk;
+    static struct model model, saved;
+    struct hunkravy_storage storage = over(&disk);
+    hunkravy_file *file = NULL;
+    unsigned long refused = 0;
+    uint64_t batch;
+    int code;
+
+    if (__real_malloc == NULL) {
+        return;
+    }
+    disk.calls_left = disk.syncs_left = ALL;
+    HOLDS(hunkravy_file_create_in(&file, &storage, HUNKRAVY_AEGIS256, key, sizeof key, 256) == 0);
+    for (int turn = 0; turn < 20000; turn++) {
+        uint64_t kind = draw(8);
+        allocations_left = (long)draw(12);
+        if (kind < 4) {
+            code = change(file, &model, 12000);
+        } else if (kind == 4) {
+            code = hunkravy_file_commit(file);
+        } else if (kind == 5) {
+            saved = model;
+            code = hunkravy_file_begin(file, &batch);
+            if (code == 0) {
+                (void)!change(file, &model, 12000);
+                (void)!change(file, &model, 12000);
+                if (draw(2) || hunkravy_file_end(file, batch) != 0) {
+                    hunkravy_file_undo(file, batch);
+                    model = saved;
+                }
+            }
+        } else {
+            allocations_left = -1;
+            HOLDS(hunkravy_file_commit(file) == 0 && hunkravy_file_close(file) == 0);
+            allocations_left = (long)draw(6);
+            while ((code = hunkravy_file_open_in(&file, &storage, HUNKRAVY_AEGIS256, key, sizeof key)) != 0) {
+                HOLDS(code == ENOMEM && file == NULL);
+                refused++;
+                allocations_left = (long)draw(6);
+            }
+        }
+        HOLDS(code == 0 || code == ENOMEM);
+        refused += code == ENOMEM;
+        allocations_left = -1;
+        check_equal(file, &model);
+    }
+    HOLDS(hunkravy_file_commit(file) == 0 && hunkravy_file_close(file) == 0);
+    printf("refused allocations: %lu\n", refused);
+}
+
+/* ---- Files of the system */
+
+static void check_system(void)
+{
+    static struct model model;
+    char folder[] = "/tmp/check_file-XXXXXX", path[80], other[80];
+    hunkravy_file *file, *second;
+    uint8_t mac[2][HUNKRAVY_FILE_COMMITMENT_BYTES];
+    uint64_t batch;
+    size_t length;
     int status;
-    pid_t child = fork();
+    pid_t child;
 
+    HOLDS(mkdtemp(folder) != NULL);
+    snprintf(path, sizeof path, "%s/file", folder);
+    snprintf(other, sizeof other, "%s/other", folder);
+    HOLDS(hunkravy_file_open(&file, path, HUNKRAVY_AEGIS256, key, sizeof key) == ENOENT && file == NULL);
+    HOLDS(hunkravy_file_create(&file, path, 6, key, sizeof key, 0) == HUNKRAVY_WRONG_VARIANT);
+    HOLDS(hunkravy_file_create(&file, path, HUNKRAVY_AEGIS256, key, 16, 0) == HUNKRAVY_WRONG_KEY_LENGTH);
+    HOLDS(hunkravy_file_create(&file, path, HUNKRAVY_AEGIS256, key, sizeof key, 255) == HUNKRAVY_WRONG_PAGE_SIZE);
+    HOLDS(access(path, F_OK) != 0 && hunkravy_file_close(NULL) == 0);
+    for (long left = 0, code = ENOMEM; code != 0; left++) {
+        HOLDS(access(path, F_OK) != 0 && left < 20);
+        allocations_left = left;
+        code = hunkravy_file_create(&file, path, HUNKRAVY_AEGIS256, key, sizeof key, 0);
+        allocations_left = -1;
+        HOLDS(code == (file == NULL ? ENOMEM : 0));
+    }
+    HOLDS(hunkravy_file_create(&second, path, HUNKRAVY_AEGIS256, key, sizeof key, 0) == EEXIST);
+    HOLDS(hunkravy_file_open(&second, path, HUNKRAVY_AEGIS256, key, sizeof key) == HUNKRAVY_FILE_LOCKED);
+    for (int i = 0; i < 200; i++) {
+        HOLDS(change(file, &model, 12000) == 0);
+        HOLDS(draw(20) != 0 || hunkravy_file_commit(file) == 0);
+        check_equal(file, &model);
+    }
+    HOLDS(hunkravy_file_write(file, UINT64_MAX, "x", 1) == HUNKRAVY_FILE_TOO_LONG);
+    HOLDS(hunkravy_file_write(file, UINT64_C(1) << 59, "x", 1) == ENOMEM);
+    /* A change has failed, so closing it would commit nothing. */
+    HOLDS(hunkravy_file_commit(file) == 0 && hunkravy_file_commitment(file, mac[0]) == 0);
+    HOLDS(rename(path, other) == 0 && hunkravy_file_write(file, 0, "x", 1) == 0);
+    model.bytes[0] = 'x';
+    HOLDS(hunkravy_file_commit(file) == HUNKRAVY_FILE_MOVED && hunkravy_file_check(file) == 0);
+    HOLDS(rename(other, path) == 0 && link(path, other) == 0 && hunkravy_file_commit(file) == HUNKRAVY_FILE_MOVED);
+    HOLDS(unlink(other) == 0);
+    check_equal(file, &model);
+    /* In a process that was forked the file is of no use, and closing it there leaves it locked. */
+    child = fork();
     HOLDS(child >= 0);
     if (child == 0) {
-        is_killed = 1;
-        calls_left = calls;
-        _exit(function(letter));
+        int is_right = hunkravy_file_check(file) == HUNKRAVY_FILE_LOCKED &&
+            hunkravy_file_commit(file) == HUNKRAVY_FILE_LOCKED &&
+            hunkravy_file_begin(file, &batch) == HUNKRAVY_FILE_LOCKED &&
+            hunkravy_file_read(file, 0, mac[1], 1, &length) == HUNKRAVY_FILE_LOCKED &&
+            hunkravy_file_close(file) == HUNKRAVY_OK &&
+            hunkravy_file_open(&file, path, HUNKRAVY_AEGIS256, key, sizeof key) == HUNKRAVY_FILE_LOCKED;
+        _exit(is_right ? 0 : 1);
     }
-    HOLDS(waitpid(child, &status, 0) == child && WIFEXITED(status));
-    return WEXITSTATUS(status);
-}
-
-/* Kills the opening at each call. After each the file opens to this letter, or to the other one if there is one. */
-static int check_openings(char letter, char other)
-{
-    int found, calls = 0;
-
-    while ((found = in_child(letter_of_texts, 0, calls++)) == KILLED) {
-        HOLDS(calls < 100);
-    }
-    HOLDS(found == letter || found == other);
-    return found;
-}
-
-static void check_kills(void)
-{
-    int result = KILLED, calls = 0, unchanged = 0;
-
-    HOLDS(in_child(set_texts, 'a', ALL_CALLS) == 1);
-    for (; result == KILLED; calls++) {
-        result = in_child(set_texts, 'b', calls);
-        if (check_openings('b', result == KILLED ? 'a' : 'b') == 'a') {
-            unchanged++;
-        }
-        HOLDS(in_child(set_texts, 'a', ALL_CALLS) == 1);
-    }
-    HOLDS(result == 1 && unchanged > 5 && calls - unchanged > 5);
-}
-
-/* ---- A change after which the power fails */
-
-/* What was not stored is gone, or not. */
-static void crash(void)
-{
-    const char *names[DISKS] = {path, journal_path, copy_path};
-
-    if (is_replaced && rand() % 2 == 0) {
-        disks[JOURNAL] = replaced;
-    }
-    is_replaced = 0;
-    for (size_t i = 0; i < DISKS; i++) {
-        int fd = open(names[i], O_RDWR | O_CREAT, 0600);
-        disks[i].fd = fd;
-        store(&disks[i], 0);
-        HOLDS(ftruncate(fd, 0) == 0);
-        HOLDS(pwrite(fd, disks[i].stored, disks[i].length, 0) == (ssize_t)disks[i].length && close(fd) == 0);
-    }
-    calls_left = syncs_left = ALL_CALLS;
-}
-
-/* Stops a change and the opening after it at any call, and lets any sync of them fail. */
-static void check_crashes(void)
-{
-    int changed = 0;
-
-    HOLDS(set_texts('a'));
-    for (int turn = 0; turn < 1000; turn++) {
-        int letter = letter_of_texts(0), made;
-        char next = letter == 'a' ? 'b' : 'a';
-
-        calls_left = rand() % 30;
-        syncs_left = rand() % 8;
-        made = set_texts(next);
-        syncs_left = rand() % 4 == 0 ? rand() % 6 : ALL_CALLS;
-        calls_left = rand() % 30;
-        if (!made && rand() % 2 == 0) {
-            open_texts(0);
-        }
-        crash();
-        if (letter_of_texts(0) == next) {
-            changed++;
-        } else {
-            HOLDS(!made && letter_of_texts(0) == letter);
-        }
-    }
-    HOLDS(changed > 100 && changed < 900);
-}
-
-/* A key file of the program hunkravy is no key here, and a journal that is a link is not followed: nothing is emptied. */
-static void check_names(void)
-{
-    struct file file = {.fd = -1};
-    uint8_t key[KEY_BYTES];
-
-    HOLDS(truncate(key_path, 65) == 0 && !begin(&file, key_path, path, O_CREAT) && truncate(key_path, KEY_BYTES) == 0);
-    HOLDS(begin(&file, key_path, path, O_CREAT) && unlink(journal_path) == 0);
-    HOLDS(symlink(key_path, journal_path) == 0 && !begin(&file, key_path, path, O_CREAT) && unlink(journal_path) == 0);
-    HOLDS(get_key(open(key_path, O_RDONLY), key));
-    HOLDS(!begin(&file, key_path, copy_path, 0) && access(copy_path, F_OK) != 0);
-    HOLDS(!begin(&file, copy_path, copy_path, O_CREAT) && access(copy_path, F_OK) != 0);
-    HOLDS(close(open(copy_path, O_CREAT | O_RDWR, 0600)) == 0 && !begin(&file, key_path, copy_path, 0));
-    HOLDS(lseek(file.fd, 0, SEEK_END) == 0 && unlink(copy_path) == 0 && unlink(file.journal_path) == 0);
-    HOLDS(link(path, copy_path) == 0 && !begin(&file, key_path, path, O_CREAT) && unlink(copy_path) == 0);
-    HOLDS(link(key_path, journal_path) == 0 && !begin(&file, key_path, path, O_CREAT) && unlink(journal_path) == 0);
-    HOLDS(get_key(open(key_path, O_RDONLY), key));
-    HOLDS(unlink(path) == 0);
+    HOLDS(waitpid(child, &status, 0) == child && status == 0);
+    HOLDS(hunkravy_file_commit(file) == 0 && hunkravy_file_commitment(file, mac[1]) == 0);
+    HOLDS(memcmp(mac[0], mac[1], sizeof mac[0]) != 0);
+    HOLDS(hunkravy_file_begin(file, &batch) == 0 && hunkravy_file_close(file) == HUNKRAVY_OPEN_BATCH);
+    HOLDS(hunkravy_file_open(&file, path, HUNKRAVY_AEGIS256, key, sizeof key) == 0);
+    check_equal(file, &model);
+    HOLDS(hunkravy_file_write(file, UINT64_MAX, "x", 1) == HUNKRAVY_FILE_TOO_LONG);
+    HOLDS(hunkravy_file_write(file, 0, "y", 1) == 0 && hunkravy_file_close(file) == HUNKRAVY_FILE_TOO_LONG);
+    HOLDS(truncate(path, 5000) == 0 && hunkravy_file_open(&file, path, HUNKRAVY_AEGIS256, key, sizeof key) == 0);
+    HOLDS(hunkravy_file_read(file, 0, model.bytes, 5, &length) == HUNKRAVY_DAMAGED_PAGE && length == 0);
+    HOLDS(hunkravy_file_damaged_page(file) == 0 && hunkravy_file_close(file) == 0);
+    HOLDS(hunkravy_file_open(&file, path, HUNKRAVY_AEGIS128L, key, 16) == HUNKRAVY_NO_FILE);
+    HOLDS(unlink(path) == 0 && rmdir(folder) == 0);
 }
 
 /* ---- Rows, as those of crates/example_batches */
 
-enum { ROWS = 5, ROW_DISTANCE = 10000, ROW_PAGES = 13 };
+enum { ROWS = 5, ROW_DISTANCE = 10000 };
 
-static uint64_t number_at(const uint8_t *bytes)
+static void run_batches(const char *path, int is_written)
 {
-    uint64_t number = 0;
-    for (int i = 7; i >= 0; i--) {
-        number = number << 8 | bytes[i];
+    static const uint8_t sevens[HUNKRAVY_AEGIS256_KEY_BYTES] = {
+        7, 7, 7, 7, 7, 7, 7, 7, 7, 7, 7, 7, 7, 7, 7, 7, 7, 7, 7, 7, 7, 7, 7, 7, 7, 7, 7, 7, 7, 7, 7, 7};
+    hunkravy_file *file;
+    uint64_t number = 0, found = 0, batch;
+    size_t length;
+
+    if (access(path, F_OK) == 0) {
+        HOLDS(hunkravy_file_open(&file, path, HUNKRAVY_AEGIS256, sevens, sizeof sevens) == 0);
+    } else {
+        HOLDS(hunkravy_file_create(&file, path, HUNKRAVY_AEGIS256, sevens, sizeof sevens, 0) == 0);
+        HOLDS(hunkravy_file_truncate(file, ROWS * ROW_DISTANCE) == 0 && hunkravy_file_commit(file) == 0);
     }
-    return number;
-}
-
-/* Writes all pages of the rows, which hold a number. */
-static void write_rows(struct file *file, uint64_t number)
-{
-    static uint8_t pages[ROW_PAGES][PAGE_BYTES];
-    struct write writes[ROW_PAGES + 2];
-
-    memset(pages, 0, sizeof pages);
-    for (size_t row = 0; row < ROWS; row++) {
-        size_t place = row * ROW_DISTANCE;
-        write_number(pages[place / SIZE] + NONCE_BYTES + place % SIZE, number, 8);
-    }
-    for (uint64_t i = 0; i < ROW_PAGES; i++) {
-        HOLDS(seal_page(file, pages[i], i, &writes[i + 1]));
-    }
-    HOLDS(commit(file, writes, ROW_PAGES + 1, ROWS * ROW_DISTANCE));
-    file->counter++;
-    file->length = ROWS * ROW_DISTANCE;
-}
-
-static uint64_t read_rows(const struct file *file)
-{
-    static uint8_t page[PAGE_BYTES];
-    uint64_t number = 0;
-
     for (uint64_t row = 0; row < ROWS; row++) {
-        uint64_t place = row * ROW_DISTANCE;
-        HOLDS(read_page(file, page, place / SIZE));
-        HOLDS(row == 0 || number == number_at(page + NONCE_BYTES + place % SIZE));
-        number = number_at(page + NONCE_BYTES + place % SIZE);
+        HOLDS(
+            hunkravy_file_read(file, row * ROW_DISTANCE, &found, sizeof found, &length) == 0 && length == sizeof found);
+        HOLDS(row == 0 || found == number);
+        number = found;
     }
-    return number;
-}
-
-static void run_batches(const char *name, int is_written)
-{
-    struct file file = {.fd = -1};
-    uint64_t number;
-
-    HOLDS(begin(&file, key_path, name, O_CREAT));
-    HOLDS(unlink(key_path) == 0 && rmdir(dirname(key_path)) == 0);
-    if (file.length == 0) {
-        write_rows(&file, 0);
-    }
-    number = read_rows(&file);
     printf("all rows hold %llu\n", (unsigned long long)number);
     fflush(stdout);
     while (is_written) {
-        write_rows(&file, ++number);
+        number++;
+        HOLDS(hunkravy_file_begin(file, &batch) == 0);
+        for (uint64_t row = 0; row < ROWS; row++) {
+            HOLDS(hunkravy_file_write(file, row * ROW_DISTANCE, &number, sizeof number) == 0);
+        }
+        HOLDS(hunkravy_file_end(file, batch) == 0);
     }
+    HOLDS(hunkravy_file_close(file) == 0);
 }
 
 int main(int argc, char **argv)
 {
-    char folder[] = "/tmp/check_file-XXXXXX";
-    uint8_t key[KEY_BYTES];
-    int fd;
-
-    memset(key, 7, sizeof key);
-    HOLDS(mkdtemp(folder) != NULL);
-    snprintf(key_path, sizeof key_path, "%s/key", folder);
-    snprintf(path, sizeof path, "%s/file", folder);
-    snprintf(journal_path, sizeof journal_path, "%s.journal", path);
-    snprintf(copy_path, sizeof copy_path, "%s.jrncopy", path);
-    fd = open(key_path, O_WRONLY | O_CREAT, 0600);
-    HOLDS(write(fd, key, sizeof key) == (ssize_t)sizeof key && close(fd) == 0);
-    if (argc > 2) {
+    if (argc > 2 && strcmp(argv[1], "batches") == 0) {
         run_batches(argv[2], argc > 3);
         return EXIT_SUCCESS;
     }
-    check_names();
-    check_kills();
-    check_crashes();
-    printf("the file of the example: %lu checks\n", checks);
-    HOLDS(unlink(key_path) == 0 && unlink(path) == 0 && unlink(journal_path) == 0 && unlink(copy_path) == 0);
-    return rmdir(folder) == 0 ? EXIT_SUCCESS : EXIT_FAILURE;
+    for (size_t i = 0; i < 6; i++) {
+        check_calls((uint32_t)i, i % 2 == 0 ? 256 : 0);
+    }
+    check_system();
+    check_memory();
+    check_crashes(argc == 2 && argv[1][0] >= '0' && argv[1][0] <= '9' ? strtoul(argv[1], NULL, 10) : 30);
+    printf("random-access files: %lu checks, %lu crashes, %lu with the change\n", checks, states, changed_states);
+    return EXIT_SUCCESS;
 }

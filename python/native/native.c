@@ -6,16 +6,9 @@
  * Each function is called with the interpreter's lock, and releases it while the library works on much. An object that
  * changes has a lock of its own, which is held meanwhile. Buffers keep their place and length until a function returns.
  */
-#define PY_SSIZE_T_CLEAN
-#define Py_LIMITED_API 0x030B0000
-#include <Python.h>
-
-#include <stdbool.h>
-#include <stdlib.h>
-#include <string.h>
+#include "native.h"
 
 #include "hunkravy.h"
-#include "hunkravy_pages.h"
 #include "hunkravy_records.h"
 
 /* The longest keys and nonces, and the longest tags. */
@@ -24,9 +17,6 @@
 
 /* Work on fewer bytes takes less time than releasing the interpreter's lock may cost. */
 #define RELEASE_FROM 4096
-
-/* Slots of types have functions as `void *`, which POSIX converts to and ISO C does not. */
-#define SLOT(function) (__extension__(void *)(function))
 
 /* ---- What the types share */
 
@@ -81,11 +71,6 @@ static void end_work(PyThreadState *released)
     }
 }
 
-/* The first fields of each object. */
-typedef struct {
-    PyObject_HEAD PyThread_type_lock lock;
-} Locked;
-
 /*
  * The same with the lock of an object. If it has to wait for that, the interpreter's lock is released in any case. A thread
  * that has an object's lock never waits for the interpreter's: once the interpreter ends, it would have both forever.
@@ -107,17 +92,6 @@ static void unlock(void *object, PyThreadState *released)
     end_work(released);
 }
 
-/* Makes an object, whose fields after its lock are zeros. */
-static void *new_object(PyTypeObject *type)
-{
-    PyObject *object = PyType_GenericAlloc(type, 0);
-    if (object != NULL && (((Locked *)object)->lock = PyThread_allocate_lock()) == NULL) {
-        Py_CLEAR(object);
-        PyErr_NoMemory();
-    }
-    return object;
-}
-
 /* Overwrites and frees an object of so many bytes. */
 static void free_object(PyObject *object, size_t length)
 {
@@ -128,14 +102,6 @@ static void free_object(PyObject *object, size_t length)
     hunkravy_wipe((uint8_t *)object + sizeof(PyObject), length - sizeof(PyObject));
     PyObject_Free(object);
     Py_DECREF(type);
-}
-
-/* Makes bytes, which are written at `*out`. */
-static PyObject *new_bytes(size_t length, uint8_t **out)
-{
-    PyObject *bytes = PyBytes_FromStringAndSize(NULL, (Py_ssize_t)length);
-    *out = bytes == NULL ? NULL : (uint8_t *)PyBytes_AsString(bytes);
-    return bytes;
 }
 
 /* ---- A message in chunks, or a MAC. The library knows which, and returns an error for the functions of another. */
@@ -325,43 +291,6 @@ static PyObject *state_mac_copy(PyObject *object, PyObject *none)
     return (PyObject *)other;
 }
 
-/* Takes the next write into a journal. Returns the bytes that it has in front of its own there. */
-static PyObject *state_entry(PyObject *object, PyObject *given)
-{
-    State *self = (State *)object;
-    unsigned long long place;
-    Py_buffer bytes;
-    uint8_t *head;
-    if (!PyArg_ParseTuple(given, "Ky*", &place, &bytes)) {
-        return NULL;
-    }
-    PyObject *result = new_bytes(HUNKRAVY_JOURNAL_HEAD_BYTES, &head);
-    if (result != NULL) {
-        PyThreadState *released = lock(self, (size_t)bytes.len);
-        int code = hunkravy_journal_entry(&self->state, place, bytes.buf, (size_t)bytes.len, head);
-        unlock(self, released);
-        result = result_of(self, code, result);
-    }
-    PyBuffer_Release(&bytes);
-    return result;
-}
-
-/* Returns the MAC with which a journal ends. */
-static PyObject *state_journal_final(PyObject *object, PyObject *none)
-{
-    State *self = (State *)object;
-    uint8_t *mac;
-    PyObject *result = new_bytes(HUNKRAVY_JOURNAL_MAC_BYTES, &mac);
-    (void)none;
-    if (result == NULL) {
-        return NULL;
-    }
-    PyThreadState *released = lock(self, 0);
-    int code = hunkravy_journal_final(&self->state, mac);
-    unlock(self, released);
-    return result_of(self, code, result);
-}
-
 static PyMethodDef state_methods[] = {
     {"encrypt", state_encrypt_chunk, METH_O, NULL},
     {"decrypt", state_decrypt_chunk, METH_O, NULL},
@@ -370,8 +299,6 @@ static PyMethodDef state_methods[] = {
     {"mac_verify", state_mac_verify, METH_O, NULL},
     {"mac_copy", state_mac_copy, METH_NOARGS, NULL},
     {"final", state_final, METH_NOARGS, NULL},
-    {"entry", state_entry, METH_VARARGS, NULL},
-    {"journal_final", state_journal_final, METH_NOARGS, NULL},
     {NULL, NULL, 0, NULL},
 };
 
@@ -585,192 +512,11 @@ static PyObject *cipher_begin(PyObject *object, PyObject *given)
     return (PyObject *)state;
 }
 
-/* ---- The pages, headers and journals of a random-access file under the key */
-
-/* Encrypts a page in place. The arguments are the page, the ID of the file, the number of the page, and a nonce. */
-static PyObject *cipher_seal_page(PyObject *object, PyObject *given)
-{
-    const Cipher *self = (Cipher *)object;
-    Py_buffer page, id, nonce;
-    unsigned long long number;
-    PyObject *result = NULL;
-    if (!PyArg_ParseTuple(given, "w*y*Ky*", &page, &id, &number, &nonce)) {
-        return NULL;
-    }
-    if (has_length("the ID", id.len, HUNKRAVY_PAGE_ID_BYTES)) {
-        PyThreadState *released = begin_work((size_t)page.len);
-        int code = hunkravy_page_seal(self->variant, page.buf, (size_t)page.len, id.buf, number, nonce.buf,
-            (size_t)nonce.len, self->key, self->key_bytes);
-        end_work(released);
-        result = result_of(object, code, Py_NewRef(Py_None));
-    }
-    PyBuffer_Release(&page);
-    PyBuffer_Release(&id);
-    PyBuffer_Release(&nonce);
-    return result;
-}
-
-/* Decrypts a page in place. */
-static PyObject *cipher_open_page(PyObject *object, PyObject *given)
-{
-    const Cipher *self = (Cipher *)object;
-    Py_buffer page, id;
-    unsigned long long number;
-    PyObject *result = NULL;
-    if (!PyArg_ParseTuple(given, "w*y*K", &page, &id, &number)) {
-        return NULL;
-    }
-    if (has_length("the ID", id.len, HUNKRAVY_PAGE_ID_BYTES)) {
-        PyThreadState *released = begin_work((size_t)page.len);
-        int code =
-            hunkravy_page_open(self->variant, page.buf, (size_t)page.len, id.buf, number, self->key, self->key_bytes);
-        end_work(released);
-        result = result_of(object, code, Py_NewRef(Py_None));
-    }
-    PyBuffer_Release(&page);
-    PyBuffer_Release(&id);
-    return result;
-}
-
-/* Returns the position of a page in the file. The arguments are the page size, and the number of the page. */
-static PyObject *cipher_page_place(PyObject *object, PyObject *given)
-{
-    unsigned int page_size;
-    unsigned long long number;
-    if (!PyArg_ParseTuple(given, "IK", &page_size, &number)) {
-        return NULL;
-    }
-    uint64_t place = hunkravy_page_place(((Cipher *)object)->variant, page_size, number);
-    return result_of(
-        object, place == UINT64_MAX ? HUNKRAVY_FILE_TOO_LONG : HUNKRAVY_OK, PyLong_FromUnsignedLongLong(place));
-}
-
-/* Returns a header block. The arguments are the page size, the ID, the counter, the length, and a nonce. */
-static PyObject *cipher_seal_header(PyObject *object, PyObject *given)
-{
-    const Cipher *self = (Cipher *)object;
-    Py_buffer id, nonce;
-    unsigned int page_size;
-    unsigned long long counter, length;
-    uint8_t *block;
-    PyObject *result = NULL;
-    if (!PyArg_ParseTuple(given, "Iy*KKy*", &page_size, &id, &counter, &length, &nonce)) {
-        return NULL;
-    }
-    if (has_length("the ID", id.len, HUNKRAVY_PAGE_ID_BYTES)) {
-        result = new_bytes(HUNKRAVY_PAGE_HEADER_BLOCK_BYTES, &block);
-    }
-    if (result != NULL) {
-        int code = hunkravy_page_header_seal(self->variant, block, page_size, id.buf, counter, length, nonce.buf,
-            (size_t)nonce.len, self->key, self->key_bytes);
-        result = result_of(object, code, result);
-    }
-    PyBuffer_Release(&id);
-    PyBuffer_Release(&nonce);
-    return result;
-}
-
-/* Returns the page size, the ID, the counter and the length of a header block. */
-static PyObject *cipher_open_header(PyObject *object, PyObject *block)
-{
-    const Cipher *self = (Cipher *)object;
-    Py_buffer bytes;
-    uint32_t page_size = 0;
-    uint64_t counter = 0, length = 0;
-    uint8_t id[HUNKRAVY_PAGE_ID_BYTES];
-    int code = HUNKRAVY_INVALID_TAG;
-    if (PyObject_GetBuffer(block, &bytes, PyBUF_SIMPLE) < 0) {
-        return NULL;
-    }
-    if (bytes.len == HUNKRAVY_PAGE_HEADER_BLOCK_BYTES) {
-        code = hunkravy_page_header_open(
-            self->variant, bytes.buf, self->key, self->key_bytes, &page_size, id, &counter, &length);
-    }
-    PyBuffer_Release(&bytes);
-    result_of(object, code, NULL);
-    if (code != HUNKRAVY_OK) {
-        return NULL;
-    }
-    return Py_BuildValue("Iy#KK", page_size, (const char *)id, (Py_ssize_t)sizeof id, (unsigned long long)counter,
-        (unsigned long long)length);
-}
-
-/* Begins a journal. Returns its state, and the bytes that it begins with. The arguments are the page size, ID and nonce. */
-static PyObject *cipher_begin_journal(PyObject *object, PyObject *given)
-{
-    const Cipher *self = (Cipher *)object;
-    Py_buffer id, nonce;
-    unsigned int page_size;
-    State *state = NULL;
-    uint8_t start[HUNKRAVY_JOURNAL_START_BYTES];
-    if (!PyArg_ParseTuple(given, "Iy*y*", &page_size, &id, &nonce)) {
-        return NULL;
-    }
-    if (has_length("the ID", id.len, HUNKRAVY_PAGE_ID_BYTES) &&
-        has_length("the nonce", nonce.len, HUNKRAVY_JOURNAL_NONCE_BYTES)) {
-        state = new_object(((Module *)PyType_GetModuleState(Py_TYPE(object)))->state);
-    }
-    if (state != NULL) {
-        int code = hunkravy_journal_init(
-            self->variant, &state->state, page_size, id.buf, nonce.buf, self->key, self->key_bytes, start);
-        state = result_of(object, code, state);
-    }
-    PyBuffer_Release(&id);
-    PyBuffer_Release(&nonce);
-    return state == NULL ? NULL : Py_BuildValue("Ny#", state, (const char *)start, (Py_ssize_t)sizeof start);
-}
-
-/* Returns the writes in the bytes of a journal: for each its position in the file, and where its bytes begin and end. */
-static PyObject *writes_in(const uint8_t *journal, size_t length)
-{
-    PyObject *found = PyList_New(0);
-    size_t start = HUNKRAVY_JOURNAL_START_BYTES, end = start + length, count;
-    uint64_t place;
-    while (found != NULL && start < end &&
-        hunkravy_journal_next(journal + start, end - start, &place, &count) == HUNKRAVY_OK) {
-        size_t from = start + HUNKRAVY_JOURNAL_HEAD_BYTES;
-        PyObject *write = Py_BuildValue("Knn", (unsigned long long)place, (Py_ssize_t)from, (Py_ssize_t)(from + count));
-        if (write == NULL || PyList_Append(found, write) < 0) {
-            Py_CLEAR(found);
-        }
-        Py_XDECREF(write);
-        start = from + count;
-    }
-    return found;
-}
-
-/* Returns the writes of a journal that are to be made again. The arguments are what the file begins with, and the journal. */
-static PyObject *cipher_journaled(PyObject *object, PyObject *given)
-{
-    const Cipher *self = (Cipher *)object;
-    Py_buffer file, journal;
-    size_t length = 0;
-    if (!PyArg_ParseTuple(given, "y*y*", &file, &journal)) {
-        return NULL;
-    }
-    PyThreadState *released = begin_work((size_t)journal.len);
-    int code = hunkravy_journal_check(self->variant, file.buf, (size_t)file.len, self->key, self->key_bytes,
-        journal.buf, (size_t)journal.len, &length);
-    end_work(released);
-    result_of(object, code, NULL);
-    PyObject *result = code == HUNKRAVY_OK ? writes_in(journal.buf, length) : NULL;
-    PyBuffer_Release(&file);
-    PyBuffer_Release(&journal);
-    return result;
-}
-
 static PyMethodDef cipher_methods[] = {
     {"encrypt", cipher_encrypt, METH_VARARGS, NULL},
     {"decrypt", cipher_decrypt, METH_VARARGS, NULL},
     {"keystream", cipher_keystream, METH_VARARGS, NULL},
     {"begin", cipher_begin, METH_VARARGS, NULL},
-    {"seal_page", cipher_seal_page, METH_VARARGS, NULL},
-    {"open_page", cipher_open_page, METH_VARARGS, NULL},
-    {"page_place", cipher_page_place, METH_VARARGS, NULL},
-    {"seal_header", cipher_seal_header, METH_VARARGS, NULL},
-    {"open_header", cipher_open_header, METH_O, NULL},
-    {"begin_journal", cipher_begin_journal, METH_VARARGS, NULL},
-    {"journaled", cipher_journaled, METH_VARARGS, NULL},
     {NULL, NULL, 0, NULL},
 };
 
@@ -879,220 +625,6 @@ static PyMethodDef records_methods[] = {
     {NULL, NULL, 0, NULL},
 };
 
-/* ---- The lock of batches. It is as threading.RLock, but another thread may end a batch whose own thread never does. */
-
-/* Returns the number of this thread. No later one gets it, as it may get the identity that the system has given to this one. */
-static uint64_t this_thread(void)
-{
-    static _Atomic uint64_t last;
-    static _Thread_local uint64_t own;
-    if (own == 0) {
-        own = ++last;
-    }
-    return own;
-}
-
-typedef struct {
-    PyObject_HEAD PyThread_type_lock lock;
-    /* The thread that has it, and how often. */
-    uint64_t owner;
-    size_t count;
-} Gate;
-
-static PyObject *gate_new(PyTypeObject *type, PyObject *arguments, PyObject *named)
-{
-    (void)named;
-    return PyArg_ParseTuple(arguments, "") ? new_object(type) : NULL;
-}
-
-static void gate_free(PyObject *object)
-{
-    free_object(object, sizeof(Gate));
-}
-
-/* Returns 1 if this thread has it now, and -1 after an exception. While it waits, other threads and handlers of signals run. */
-static int acquire(Gate *self, bool waits)
-{
-    if (self->count == 0 || self->owner != this_thread()) {
-        PyLockStatus status = PyThread_acquire_lock_timed(self->lock, 0, 0);
-        while (status != PY_LOCK_ACQUIRED) {
-            if (!waits || PyErr_CheckSignals() < 0) {
-                return waits ? -1 : 0;
-            }
-            PyThreadState *released = PyEval_SaveThread();
-            status = PyThread_acquire_lock_timed(self->lock, -1, 1);
-            PyEval_RestoreThread(released);
-        }
-        self->owner = this_thread();
-    }
-    self->count++;
-    return 1;
-}
-
-static void release_gate(Gate *self)
-{
-    if (--self->count == 0) {
-        PyThread_release_lock(self->lock);
-    }
-}
-
-static PyObject *gate_acquire(PyObject *object, PyObject *given)
-{
-    int waits = 1;
-    if (!PyArg_ParseTuple(given, "|p", &waits)) {
-        return NULL;
-    }
-    int result = acquire((Gate *)object, waits != 0);
-    return result < 0 ? NULL : PyBool_FromLong(result);
-}
-
-static PyObject *gate_release(PyObject *object, PyObject *none)
-{
-    (void)none;
-    if (((Gate *)object)->count == 0) {
-        return PyErr_SetString(PyExc_RuntimeError, "the lock is free"), NULL;
-    }
-    release_gate((Gate *)object);
-    return Py_NewRef(Py_None);
-}
-
-static PyMethodDef gate_methods[] = {
-    {"acquire", gate_acquire, METH_VARARGS, NULL},
-    {"release", gate_release, METH_NOARGS, NULL},
-    {"__enter__", gate_acquire, METH_VARARGS, NULL},
-    {"__exit__", gate_release, METH_VARARGS, NULL},
-    {NULL, NULL, 0, NULL},
-};
-
-/*
- * ---- A batch of a random-access file. Python calls the handlers of signals between two of its own instructions, so an
- * exception of one leaves no function here half done. The methods of the file that are called here may raise one.
- */
-
-typedef struct {
-    PyObject_HEAD PyObject *file;
-    /* From its beginning to its end: what it goes back to if it fails, the name of the attribute of that which says so, the lock
-     * of batches, and the thread that has it. */
-    PyObject *savepoint, *is_over;
-    Gate *gate;
-    uint64_t thread;
-} Batch;
-
-static PyObject *batch_new(PyTypeObject *type, PyObject *arguments, PyObject *named)
-{
-    PyObject *file;
-    (void)named;
-    if (!PyArg_ParseTuple(arguments, "O", &file)) {
-        return NULL;
-    }
-    Batch *self = (Batch *)PyType_GenericAlloc(type, 0);
-    if (self != NULL) {
-        self->file = Py_NewRef(file);
-    }
-    return (PyObject *)self;
-}
-
-/*
- * Ends it. If it has failed, it is still one of those that are open, and the next call of the file goes back: a call may be
- * running now, in this thread or in its own. This needs no memory, waits for nothing, and keeps the exception that there may be.
- */
-static void end(Batch *self)
-{
-    PyObject *kind, *error, *traceback;
-    PyErr_Fetch(&kind, &error, &traceback);
-    if (self->savepoint != NULL && PyObject_SetAttr(self->savepoint, self->is_over, Py_True) < 0) {
-        PyErr_Clear();
-    }
-    Py_CLEAR(self->savepoint);
-    Py_CLEAR(self->is_over);
-    if (self->gate != NULL) {
-        release_gate(self->gate);
-        Py_CLEAR(self->gate);
-    }
-    PyErr_Restore(kind, error, traceback);
-}
-
-/* Takes the lock of batches, and begins. Other threads then wait. */
-static PyObject *batch_enter(PyObject *object, PyObject *none)
-{
-    Batch *self = (Batch *)object;
-    (void)none;
-    if (self->savepoint != NULL) {
-        return PyErr_SetString(PyExc_RuntimeError, "this batch has begun"), NULL;
-    }
-    PyObject *lock = PyObject_CallMethod(self->file, "_next_batch", NULL);
-    PyObject *gate = lock == NULL ? NULL : PyObject_GetAttrString(self->file, "_batches");
-    /* In another process than that of the file there is another lock, and beginning is an error. */
-    bool is_own = lock == gate;
-    Py_XDECREF(lock);
-    if (gate == NULL || (is_own && acquire((Gate *)gate, true) < 0)) {
-        Py_XDECREF(gate);
-        return NULL;
-    }
-    if (is_own) {
-        self->gate = (Gate *)gate;
-    } else {
-        Py_DECREF(gate);
-    }
-    self->thread = this_thread();
-    self->is_over = PyUnicode_InternFromString("is_over");
-    self->savepoint = self->is_over == NULL ? NULL : PyObject_CallMethod(self->file, "_begin_batch", NULL);
-    if (self->savepoint == NULL || PyObject_SetAttrString(self->file, "_batch", self->savepoint) < 0) {
-        end(self);
-        return NULL;
-    }
-    return Py_NewRef(self->file);
-}
-
-/* Commits after the outermost block, unless that raised an exception. */
-static PyObject *batch_exit(PyObject *object, PyObject *given)
-{
-    Batch *self = (Batch *)object;
-    PyObject *kind, *error, *traceback;
-    if (!PyArg_ParseTuple(given, "OOO", &kind, &error, &traceback)) {
-        return NULL;
-    }
-    if (self->savepoint == NULL) {
-        return PyErr_SetString(PyExc_RuntimeError, "the batch has not begun, or has ended"), NULL;
-    }
-    PyObject *result = NULL;
-    if (kind != Py_None) {
-        result = Py_NewRef(Py_None);
-    } else if (self->thread != this_thread()) {
-        PyErr_SetString(PyExc_RuntimeError, "a batch ends in the thread in which it began");
-    } else {
-        result = PyObject_CallMethod(self->file, "_end_batch", "(O)", self->savepoint);
-    }
-    end(self);
-    return result;
-}
-
-/* So the collector finds one that is kept in its own file. It frees the file first, so there is nothing to clear here. */
-static int batch_traverse(PyObject *object, visitproc visit, void *arg)
-{
-    Py_VISIT(Py_TYPE(object));
-    Py_VISIT(((Batch *)object)->file);
-    Py_VISIT(((Batch *)object)->savepoint);
-    return 0;
-}
-
-/* One that a signal has left before its block, or that nobody has ended, fails. */
-static void batch_free(PyObject *object)
-{
-    PyTypeObject *type = Py_TYPE(object);
-    PyObject_GC_UnTrack(object);
-    end((Batch *)object);
-    Py_XDECREF(((Batch *)object)->file);
-    PyObject_GC_Del(object);
-    Py_DECREF(type);
-}
-
-static PyMethodDef batch_methods[] = {
-    {"__enter__", batch_enter, METH_NOARGS, NULL},
-    {"__exit__", batch_exit, METH_VARARGS, NULL},
-    {NULL, NULL, 0, NULL},
-};
-
 /* ---- The module */
 
 static PyType_Slot cipher_slots[] = {
@@ -1100,19 +632,12 @@ static PyType_Slot cipher_slots[] = {
 static PyType_Slot state_slots[] = {{Py_tp_dealloc, SLOT(state_free)}, {Py_tp_methods, state_methods}, {0, NULL}};
 static PyType_Slot records_slots[] = {
     {Py_tp_new, SLOT(records_new)}, {Py_tp_dealloc, SLOT(records_free)}, {Py_tp_methods, records_methods}, {0, NULL}};
-static PyType_Slot gate_slots[] = {
-    {Py_tp_new, SLOT(gate_new)}, {Py_tp_dealloc, SLOT(gate_free)}, {Py_tp_methods, gate_methods}, {0, NULL}};
-static PyType_Slot batch_slots[] = {{Py_tp_new, SLOT(batch_new)}, {Py_tp_dealloc, SLOT(batch_free)},
-    {Py_tp_traverse, SLOT(batch_traverse)}, {Py_tp_methods, batch_methods}, {0, NULL}};
 
-/* Only `Cipher.begin` makes states. The bit of Py_TPFLAGS_IMMUTABLETYPE keeps Python code from changing the types. */
-enum { TYPE_FLAGS = Py_TPFLAGS_DEFAULT | 1 << 8 };
+/* Only `Cipher.begin` makes states. */
 static PyType_Spec specs[] = {
     {"hunkravy._native.Cipher", sizeof(Cipher), 0, TYPE_FLAGS, cipher_slots},
     {"hunkravy._native.State", sizeof(State), 0, TYPE_FLAGS | Py_TPFLAGS_DISALLOW_INSTANTIATION, state_slots},
     {"hunkravy._native.Records", sizeof(Records), 0, TYPE_FLAGS, records_slots},
-    {"hunkravy._native.Gate", sizeof(Gate), 0, TYPE_FLAGS, gate_slots},
-    {"hunkravy._native.Batch", sizeof(Batch), 0, TYPE_FLAGS | Py_TPFLAGS_HAVE_GC, batch_slots},
 };
 
 static int execute(PyObject *object)
@@ -1125,10 +650,11 @@ static int execute(PyObject *object)
         "hunkravy.InvalidTag", "The tag is not that of the message, or the MAC is not that of the input.", NULL, NULL);
     int result = PyModule_AddObjectRef(object, "InvalidTag", module->invalid_tag);
     result = result < 0 ? result : PyModule_AddIntConstant(object, "LEVEL", hunkravy_level());
-    for (size_t i = 0; result == 0 && i < sizeof specs / sizeof specs[0]; i++) {
-        PyObject *type = PyType_FromModuleAndSpec(object, &specs[i], NULL);
+    PyType_Spec *all[] = {&specs[0], &specs[1], &specs[2], &file_spec, &batch_spec};
+    for (size_t i = 0; result == 0 && i < sizeof all / sizeof all[0]; i++) {
+        PyObject *type = PyType_FromModuleAndSpec(object, all[i], NULL);
         result = type == NULL ? -1 : PyModule_AddType(object, (PyTypeObject *)type);
-        if (specs[i].slots == state_slots) {
+        if (all[i]->slots == state_slots) {
             module->state = (PyTypeObject *)type;
         } else {
             Py_XDECREF(type);

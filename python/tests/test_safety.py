@@ -127,7 +127,7 @@ class Begun(unittest.TestCase):
         for name, body in kinds.items():
             stated = {method.name for method in body if isinstance(method, ast.FunctionDef)} - {"__new__"}
             found = vars(_native)[name]
-            self.assertEqual({method for method in vars(found) if not method.startswith("_")}, stated - {"__enter__", "__exit__"})
+            self.assertEqual({method for method in vars(found) if not method.startswith("_")}, {method for method in stated if not method.startswith("_")})
 
     def test_a_changed_module(self) -> None:
         """It uses its own types, whatever its names are bound to."""

@@ -1,0 +1,190 @@
+/*
+ * Random-access files: a file that is encrypted page by page, and read and written at any place. Changes stay in memory
+ * until a commit, and AFTER A CRASH ALL CHANGES OF A COMMIT ARE THERE, OR NONE.
+ *
+ *     hunkravy_file *file;
+ *     int code = hunkravy_file_open(&file, "store", HUNKRAVY_AEGIS256, key, sizeof key);
+ *     if (code == HUNKRAVY_OK) {
+ *         code = hunkravy_file_write(file, 1000000, "some bytes", 10);
+ *         ...
+ *         code = hunkravy_file_close(file);
+ *     }
+ *
+ * A commit writes its changes to the journal first, the file PATH.journal, and removes it at the end. Opening completes a
+ * commit that was interrupted, or discards all of it. `raf` in Rust, RandomAccessFile in Python and the proved crate
+ * `aegis_pages` read and write the same files: RANDOM-ACCESS.md has the format, and the model of a crash.
+ *
+ * RESULTS. A function that is marked HUNKRAVY_MUST_USE returns HUNKRAVY_OK, a code of hunkravy.h, which is negative, or
+ * the error number of the system, such as ENOSPC, which is positive. hunkravy_file_error_text has a text for each. After
+ * ENOMEM nothing has changed. These codes are of files:
+ *
+ * - HUNKRAVY_NO_FILE: there is no header of this variant and key. A wrong key, a damaged file, or no such file.
+ * - HUNKRAVY_WRONG_JOURNAL: the journal is that of another file, or of another state of this one.
+ * - HUNKRAVY_DAMAGED_PAGE: a page is not authentic. hunkravy_file_damaged_page has its number.
+ * - HUNKRAVY_FILE_TOO_LONG: the contents would be longer than 2^60 bytes, or no more commits are possible.
+ * - HUNKRAVY_FILE_LOCKED: the file is open already, here or in another process. After a fork it is open in the process
+ *   that opened it.
+ * - HUNKRAVY_FILE_MOVED: the file was renamed, removed or replaced, or has several hard links: its journal would not be
+ *   found.
+ * - HUNKRAVY_FILE_BROKEN: an earlier commit failed while it wrote. Open the file again.
+ * - HUNKRAVY_OPEN_BATCH: a batch has not ended.
+ *
+ * THREADS. Use a file from one thread at a time. Exception: hunkravy_file_check may be called from any.
+ */
+#ifndef HUNKRAVY_FILE_H
+#define HUNKRAVY_FILE_H
+
+#include "hunkravy.h"
+
+#ifdef __cplusplus
+extern "C" {
+#endif
+
+/* An open file. */
+typedef struct hunkravy_file hunkravy_file;
+
+#define HUNKRAVY_FILE_COMMITMENT_BYTES 32
+
+/*
+ * Creates an empty file at a path where there is none, and opens it. `page_size` is from 256 to 65,536 bytes, or 0: then
+ * a page fills a block of 4,096 bytes. After an error there is no new file, and `*file` is null.
+ */
+HUNKRAVY_MUST_USE int hunkravy_file_create(hunkravy_file **file, const char *path, uint32_t variant, const uint8_t *k,
+    size_t klen, uint32_t page_size) HUNKRAVY_NONNULL(1, 2);
+
+/*
+ * Opens and locks the file at a path, and completes a commit that was interrupted, or discards all of it. After an error
+ * `*file` is null. After any of the codes above nothing has changed; after an error of the system open it again.
+ */
+HUNKRAVY_MUST_USE int hunkravy_file_open(hunkravy_file **file, const char *path, uint32_t variant, const uint8_t *k,
+    size_t klen) HUNKRAVY_NONNULL(1, 2);
+
+/*
+ * Commits the changes, and frees the file, in any case. Commits nothing, and returns the code why, if a batch is open, if
+ * the file is broken, or if a change has failed since the last commit or discard. In another process than that of the
+ * file it only frees it. A null pointer is no file, and HUNKRAVY_OK.
+ */
+HUNKRAVY_MUST_USE int hunkravy_file_close(hunkravy_file *file);
+
+/* The length of the contents. */
+uint64_t hunkravy_file_size(const hunkravy_file *file) HUNKRAVY_NONNULL(1);
+
+/*
+ * Reads `outlen` bytes of the contents from `offset` on, or fewer if the contents end, and sets `*readlen` to how many.
+ * After an error it is 0, and all of `out` are zeros.
+ */
+HUNKRAVY_MUST_USE int hunkravy_file_read(hunkravy_file *file, uint64_t offset, void *out, size_t outlen,
+    size_t *readlen) HUNKRAVY_NONNULL(1, 5);
+
+/*
+ * Writes over the contents from `offset` on. Zeros fill a gap in front. The change stays in memory. Outside a batch the
+ * write commits once more than 16 MiB are changed. After an error nothing has changed, unless it is one of a commit.
+ */
+HUNKRAVY_MUST_USE int hunkravy_file_write(hunkravy_file *file, uint64_t offset, const void *data, size_t datalen)
+    HUNKRAVY_NONNULL(1);
+
+/* Truncates the contents, or extends them with zeros, as a write does. The file itself does not become shorter. */
+HUNKRAVY_MUST_USE int hunkravy_file_truncate(hunkravy_file *file, uint64_t size) HUNKRAVY_NONNULL(1);
+
+/*
+ * Writes all changes, so that after a crash all of them are there, or none; after HUNKRAVY_OK they are. Without changes
+ * nothing is written. If there is no room, or no journal can be made, the changes are still in memory. After an error
+ * of writing the file is broken: open it again, which gives the contents before the changes or after them.
+ */
+HUNKRAVY_MUST_USE int hunkravy_file_commit(hunkravy_file *file) HUNKRAVY_NONNULL(1);
+
+/* Discards all changes since the last commit, and ends each batch. */
+void hunkravy_file_discard(hunkravy_file *file) HUNKRAVY_NONNULL(1);
+
+/*
+ * Begins a batch, in another one or not, and sets `*batch` to its number. Nothing in it is committed before the
+ * outermost one ends, so all of its changes stay in memory.
+ */
+HUNKRAVY_MUST_USE int hunkravy_file_begin(hunkravy_file *file, uint64_t *batch) HUNKRAVY_NONNULL(1, 2);
+
+/*
+ * Ends a batch. The end of the outermost one commits; after an error of that it is undone, unless the file is broken.
+ * Returns HUNKRAVY_OPEN_BATCH if one in it has not ended: then both are undone. Returns HUNKRAVY_WRONG_STATE, and changes
+ * nothing, if no such batch is open.
+ */
+HUNKRAVY_MUST_USE int hunkravy_file_end(hunkravy_file *file, uint64_t batch) HUNKRAVY_NONNULL(1);
+
+/* Ends a batch, and each one in it, and goes back to its beginning. Does nothing if no such batch is open. */
+void hunkravy_file_undo(hunkravy_file *file, uint64_t batch) HUNKRAVY_NONNULL(1);
+
+/* Whether a batch is open. */
+HUNKRAVY_MUST_USE int hunkravy_file_is_in_batch(const hunkravy_file *file) HUNKRAVY_NONNULL(1);
+
+/* Sets how many bytes of changed pages there may be before a write commits. The default is 16 MiB. */
+void hunkravy_file_set_limit(hunkravy_file *file, uint64_t limit) HUNKRAVY_NONNULL(1);
+
+/*
+ * Writes a MAC under the key, of HUNKRAVY_FILE_COMMITMENT_BYTES, of the state at the last commit: with an older page or
+ * header it is different. Keep it where nobody can roll it back together with the file. It reads the tag of each page.
+ */
+HUNKRAVY_MUST_USE int hunkravy_file_commitment(hunkravy_file *file, uint8_t *mac) HUNKRAVY_NONNULL(1, 2);
+
+/* Returns HUNKRAVY_OK, HUNKRAVY_FILE_LOCKED in a process that was forked, or HUNKRAVY_FILE_BROKEN. */
+HUNKRAVY_MUST_USE int hunkravy_file_check(const hunkravy_file *file) HUNKRAVY_NONNULL(1);
+
+/* The number of the page that was found damaged last. */
+uint64_t hunkravy_file_damaged_page(const hunkravy_file *file) HUNKRAVY_NONNULL(1);
+
+/* Returns the text of a code or of an error number of the system, in English. */
+const char *hunkravy_file_error_text(int code);
+
+/* ---- Files in another storage than files of the system */
+
+/* What a storage has. */
+enum hunkravy_part { HUNKRAVY_PART_FILE, HUNKRAVY_PART_JOURNAL };
+
+/*
+ * A storage of a file and its journal. Its functions are called from one thread at a time. Each returns HUNKRAVY_OK, one of
+ * the codes above, or an error number of the system. A pointer may be null where it says so.
+ *
+ * Until `sync` has returned HUNKRAVY_OK a crash may leave any bytes where something was written, and the old size or the
+ * new one. No other byte changes.
+ */
+struct hunkravy_storage {
+    void *context;
+    /* Fills `bytes`. Returns HUNKRAVY_DAMAGED_PAGE if there are fewer. */
+    int (*read)(void *context, enum hunkravy_part part, uint64_t place, uint8_t *bytes, size_t length);
+    /* Writes all of the bytes. Zeros fill a gap in front of them. */
+    int (*write)(void *context, enum hunkravy_part part, uint64_t place, const uint8_t *bytes, size_t length);
+    /* How many bytes it has. A journal that does not exist has none. */
+    int (*size)(void *context, enum hunkravy_part part, uint64_t *size);
+    /* Empties the part, or makes it longer. Called with 0 alone. */
+    int (*resize)(void *context, enum hunkravy_part part, uint64_t size);
+    /* Returns once everything that was written survives a loss of power. */
+    int (*sync)(void *context, enum hunkravy_part part);
+    /* Makes `bytes` those of the journal, such that a crash leaves the old ones or these, and syncs them. If null, they are
+     * written over the journal. */
+    int (*replace)(void *context, const uint8_t *bytes, size_t length);
+    /* Makes reads return what would survive a loss of power now, also after a sync that failed. May be null. */
+    int (*forget)(void *context, enum hunkravy_part part);
+    /* Locks it against all others until `close`. May be null. */
+    int (*lock)(void *context);
+    /* Checks that a later opening would find both parts by their names, which then survive a loss of power. May be null. */
+    int (*check)(void *context);
+    /* Makes room for writes to the file from `from` up to `end`, unless they are equal, and an empty journal. The bytes from
+     * `from` on are not in use, and may become zeros. Called before a commit writes. May be null. */
+    int (*reserve)(void *context, uint64_t from, uint64_t end);
+    /* Fills `bytes` with random ones. Never the same twice under one key. */
+    int (*random)(void *context, uint8_t *bytes, size_t length);
+    /* Unlocks and frees it. May be null. */
+    void (*close)(void *context);
+};
+
+/* As hunkravy_file_create, in an empty storage. It is closed with the file, and after an error. */
+HUNKRAVY_MUST_USE int hunkravy_file_create_in(hunkravy_file **file, const struct hunkravy_storage *storage,
+    uint32_t variant, const uint8_t *k, size_t klen, uint32_t page_size) HUNKRAVY_NONNULL(1, 2);
+
+/* As hunkravy_file_open, in a storage. It is closed with the file, and after an error. */
+HUNKRAVY_MUST_USE int hunkravy_file_open_in(hunkravy_file **file, const struct hunkravy_storage *storage,
+    uint32_t variant, const uint8_t *k, size_t klen) HUNKRAVY_NONNULL(1, 2);
+
+#ifdef __cplusplus
+}
+#endif
+
+#endif

@@ -1,0 +1,46 @@
+/* What the files of the module hunkravy._native share. It is written for the stable interface of Python 3.11. */
+#ifndef NATIVE_H
+#define NATIVE_H
+
+#define PY_SSIZE_T_CLEAN
+#define Py_LIMITED_API 0x030B0000
+#include <Python.h>
+
+#include <stdbool.h>
+#include <stdlib.h>
+#include <string.h>
+
+/* Slots of types have functions as `void *`, which POSIX converts to and ISO C does not. */
+#define SLOT(function) (__extension__(void *)(function))
+
+/* The bit of Py_TPFLAGS_IMMUTABLETYPE keeps Python code from changing the types. */
+enum { TYPE_FLAGS = Py_TPFLAGS_DEFAULT | 1 << 8 };
+
+/* The first fields of each object. */
+typedef struct {
+    PyObject_HEAD PyThread_type_lock lock;
+} Locked;
+
+/* Makes an object, whose fields after its lock are zeros. */
+static inline void *new_object(PyTypeObject *type)
+{
+    PyObject *object = PyType_GenericAlloc(type, 0);
+    if (object != NULL && (((Locked *)object)->lock = PyThread_allocate_lock()) == NULL) {
+        Py_CLEAR(object);
+        PyErr_NoMemory();
+    }
+    return object;
+}
+
+/* Makes bytes, which are written at `*out`. */
+static inline PyObject *new_bytes(size_t length, uint8_t **out)
+{
+    PyObject *bytes = PyBytes_FromStringAndSize(NULL, (Py_ssize_t)length);
+    *out = bytes == NULL ? NULL : (uint8_t *)PyBytes_AsString(bytes);
+    return bytes;
+}
+
+/* The types of random_access.c. */
+extern PyType_Spec file_spec, batch_spec;
+
+#endif

@@ -1,0 +1,539 @@
+/*
+ * The types RandomAccessFile and Batch of the module hunkravy._native: the files of hunkravy_file.h with the buffers, the
+ * exceptions and the threads of Python.
+ *
+ * As in sqlite3 only the thread that has opened a file may use it, unless `check_same_thread` is false. Each call has the
+ * lock of its file, and releases the interpreter's lock while it reads, writes or commits. Python calls the handlers of
+ * signals between two of its own instructions, so an exception of one leaves no call here half done.
+ */
+#include "native.h"
+
+#include <errno.h>
+
+#include "hunkravy_file.h"
+
+typedef struct {
+    PyObject_HEAD PyThread_type_lock lock;
+    hunkravy_file *file;
+    /* The thread that may use it, or 0 for all. */
+    unsigned long thread;
+} File;
+
+/* ---- Exceptions */
+
+/* Raises RandomAccessError with its cause, and the number of the page for "damaged". */
+static void raise_cause(const char *cause, PyObject *page)
+{
+    PyObject *module = page == NULL ? NULL : PyImport_ImportModule("hunkravy._random_access");
+    PyObject *type = module == NULL ? NULL : PyObject_GetAttrString(module, "RandomAccessError");
+    PyObject *error = type == NULL ? NULL : PyObject_CallFunction(type, "sO", cause, page);
+    if (error != NULL) {
+        PyErr_SetObject(type, error);
+    }
+    Py_XDECREF(error);
+    Py_XDECREF(type);
+    Py_XDECREF(module);
+    Py_XDECREF(page);
+}
+
+/* Returns the result if the code is HUNKRAVY_OK. Otherwise drops it, and returns null with the code's exception. */
+static PyObject *result_of(int code, uint64_t page, PyObject *path, PyObject *result)
+{
+    if (code == HUNKRAVY_OK) {
+        return result;
+    }
+    Py_XDECREF(result);
+    switch (code) {
+    case HUNKRAVY_NO_FILE:
+        raise_cause("header", Py_NewRef(Py_None));
+        break;
+    case HUNKRAVY_WRONG_JOURNAL:
+        raise_cause("journal", Py_NewRef(Py_None));
+        break;
+    case HUNKRAVY_DAMAGED_PAGE:
+        raise_cause("damaged", PyLong_FromUnsignedLongLong(page));
+        break;
+    case HUNKRAVY_FILE_TOO_LONG:
+        raise_cause("too_long", Py_NewRef(Py_None));
+        break;
+    case HUNKRAVY_FILE_LOCKED:
+        raise_cause("locked", Py_NewRef(Py_None));
+        break;
+    case HUNKRAVY_FILE_MOVED:
+        raise_cause("moved", Py_NewRef(Py_None));
+        break;
+    case HUNKRAVY_FILE_BROKEN:
+        raise_cause("broken", Py_NewRef(Py_None));
+        break;
+    case HUNKRAVY_OPEN_BATCH:
+        PyErr_SetString(PyExc_RuntimeError, "a batch has not ended");
+        break;
+    case HUNKRAVY_WRONG_STATE:
+        PyErr_SetString(PyExc_RuntimeError, "this batch has not begun, or has ended");
+        break;
+    case HUNKRAVY_WRONG_VARIANT:
+        PyErr_SetString(PyExc_TypeError, "use one of the six variants, such as Aegis256");
+        break;
+    case ENOMEM:
+        PyErr_NoMemory();
+        break;
+    default:
+        if (code > 0) {
+            PyObject *name = path == NULL ? NULL : PyUnicode_DecodeFSDefault(PyBytes_AsString(path));
+            errno = code;
+            PyErr_SetFromErrnoWithFilenameObject(PyExc_OSError, name);
+            Py_XDECREF(name);
+        } else {
+            PyErr_SetString(PyExc_ValueError, hunkravy_error_text(code));
+        }
+    }
+    return NULL;
+}
+
+/* ---- Turns */
+
+/*
+ * Takes the lock of a file that this thread may use. A thread that has it never waits for the interpreter's lock. After a
+ * fork another thread may have it for ever, so it is not taken. Returns whether there is no exception.
+ */
+static bool begin(File *self)
+{
+    if (self->thread != 0 && self->thread != PyThread_get_thread_ident()) {
+        PyErr_SetString(PyExc_RuntimeError,
+            "the file was opened in another thread: open it with check_same_thread=False, and let threads take turns");
+        return false;
+    }
+    while (self->file != NULL && !PyThread_acquire_lock(self->lock, NOWAIT_LOCK)) {
+        if (hunkravy_file_check(self->file) == HUNKRAVY_FILE_LOCKED) {
+            raise_cause("locked", Py_NewRef(Py_None));
+            return false;
+        }
+        PyThreadState *released = PyEval_SaveThread();
+        PyThread_acquire_lock(self->lock, WAIT_LOCK);
+        PyThread_release_lock(self->lock);
+        PyEval_RestoreThread(released);
+    }
+    if (self->file == NULL) {
+        PyErr_SetString(PyExc_ValueError, "I/O operation on closed file");
+    }
+    return self->file != NULL;
+}
+
+/* Makes a call of the library without the interpreter's lock, and releases that of the file before taking it again. */
+#define CALL(self, code, page, call) \
+    do { \
+        PyThreadState *released = PyEval_SaveThread(); \
+        (code) = (call); \
+        (page) = hunkravy_file_damaged_page((self)->file); \
+        PyThread_release_lock((self)->lock); \
+        PyEval_RestoreThread(released); \
+    } while (0)
+
+/* The method NAME without arguments. */
+#define METHOD(NAME, CALLED) \
+    static PyObject *NAME(PyObject *object, PyObject *none) \
+    { \
+        File *self = (File *)object; \
+        int code; \
+        uint64_t page; \
+        (void)none; \
+        if (!begin(self)) { \
+            return NULL; \
+        } \
+        CALL(self, code, page, CALLED); \
+        return result_of(code, page, NULL, Py_NewRef(Py_None)); \
+    }
+
+METHOD(file_commit, hunkravy_file_commit(self->file))
+METHOD(file_discard, (hunkravy_file_discard(self->file), HUNKRAVY_OK))
+
+/* Converts a number that is not negative. One that is too large for any file becomes the largest. */
+static int natural(PyObject *given, void *result)
+{
+    int is_too_large;
+    PyObject *number = PyNumber_Index(given);
+    long long value = number == NULL ? -1 : PyLong_AsLongLongAndOverflow(number, &is_too_large);
+    if (number != NULL && (value < 0) && is_too_large <= 0 && !PyErr_Occurred()) {
+        PyErr_Format(PyExc_ValueError, "must not be negative: %R", number);
+    }
+    *(uint64_t *)result = number != NULL && is_too_large > 0 ? INT64_MAX : (uint64_t)value;
+    Py_XDECREF(number);
+    return PyErr_Occurred() == NULL;
+}
+
+/* ---- Opening and closing */
+
+/* Opens a file in an object, or creates one. */
+static int open_in(File *self, PyObject *given, PyObject *named, bool is_new)
+{
+    static char *of_create[] = {"path", "key", "cipher", "check_same_thread", "page_size", NULL};
+    static char *of_open[] = {"path", "key", "cipher", "check_same_thread", NULL};
+    PyObject *cipher = NULL, *number = NULL, *path = NULL, *size = Py_None;
+    Py_buffer key = {.obj = NULL};
+    unsigned long variant = HUNKRAVY_AEGIS256;
+    uint64_t page_size = 0;
+    int checks = 1, code;
+    if (!PyArg_ParseTupleAndKeywords(given, named, is_new ? "O&y*|$OpO:create" : "O&y*|$Op:RandomAccessFile",
+            is_new ? of_create : of_open, PyUnicode_FSConverter, &path, &key, &cipher, &checks, &size)) {
+        return -1;
+    }
+    if (self->file != NULL) {
+        PyErr_SetString(PyExc_RuntimeError, "the file is open already");
+    } else if (cipher != NULL && (number = PyObject_GetAttrString(cipher, "_VARIANT")) != NULL) {
+        variant = PyLong_AsUnsignedLong(number);
+        Py_DECREF(number);
+    }
+    if (!PyErr_Occurred() && size != Py_None && natural(size, &page_size) &&
+        (page_size == 0 || page_size > UINT32_MAX)) {
+        page_size = 1;
+    }
+    if (!PyErr_Occurred()) {
+        hunkravy_file *file;
+        const char *name = PyBytes_AsString(path);
+        PyThreadState *released = PyEval_SaveThread();
+        code = is_new
+            ? hunkravy_file_create(&file, name, (uint32_t)variant, key.buf, (size_t)key.len, (uint32_t)page_size)
+            : hunkravy_file_open(&file, name, (uint32_t)variant, key.buf, (size_t)key.len);
+        PyEval_RestoreThread(released);
+        self->file = file;
+        self->thread = checks ? PyThread_get_thread_ident() : 0;
+        (void)result_of(code, 0, path, NULL);
+    }
+    PyBuffer_Release(&key);
+    Py_DECREF(path);
+    return PyErr_Occurred() == NULL ? 0 : -1;
+}
+
+static PyObject *file_new(PyTypeObject *type, PyObject *given, PyObject *named)
+{
+    (void)given;
+    (void)named;
+    return new_object(type);
+}
+
+static int file_init(PyObject *object, PyObject *given, PyObject *named)
+{
+    return open_in((File *)object, given, named, false);
+}
+
+static PyObject *file_create(PyObject *type, PyObject *given, PyObject *named)
+{
+    PyObject *object = new_object((PyTypeObject *)type);
+    if (object != NULL && open_in((File *)object, given, named, true) < 0) {
+        Py_CLEAR(object);
+    }
+    return object;
+}
+
+/* Closes the file. It commits its changes if there is no batch. That a commit has failed was raised before. */
+static PyObject *file_close(PyObject *object, PyObject *none)
+{
+    File *self = (File *)object;
+    hunkravy_file *file = self->file;
+    (void)none;
+    if (file == NULL) {
+        Py_RETURN_NONE;
+    }
+    /* In another process than that of the file nobody can wait for its lock. */
+    bool is_here = hunkravy_file_check(file) != HUNKRAVY_FILE_LOCKED;
+    if (is_here && !begin(self)) {
+        return NULL;
+    }
+    /* What other threads find is not freed. */
+    file = self->file;
+    self->file = NULL;
+    PyThreadState *released = PyEval_SaveThread();
+    int code = is_here ? hunkravy_file_commit(file) : HUNKRAVY_OK;
+    int closed = hunkravy_file_close(file);
+    if (is_here) {
+        PyThread_release_lock(self->lock);
+    }
+    PyEval_RestoreThread(released);
+    code = code == HUNKRAVY_OK ? closed : code;
+    return result_of(code == HUNKRAVY_FILE_BROKEN ? HUNKRAVY_OK : code, 0, NULL, Py_NewRef(Py_None));
+}
+
+/* A file that is dropped without `close` loses its changes. */
+static void file_free(PyObject *object)
+{
+    File *self = (File *)object;
+    PyTypeObject *type = Py_TYPE(object);
+    if (self->file != NULL) {
+        hunkravy_file_discard(self->file);
+        (void)!hunkravy_file_close(self->file);
+    }
+    if (self->lock != NULL) {
+        PyThread_free_lock(self->lock);
+    }
+    freefunc release = __extension__(freefunc) PyType_GetSlot(type, Py_tp_free);
+    release(object);
+    Py_DECREF(type);
+}
+
+static PyObject *file_enter(PyObject *object, PyObject *none)
+{
+    (void)none;
+    if (!begin((File *)object)) {
+        return NULL;
+    }
+    int code = hunkravy_file_check(((File *)object)->file);
+    PyThread_release_lock(((File *)object)->lock);
+    return result_of(code, 0, NULL, Py_NewRef(object));
+}
+
+static PyObject *file_exit(PyObject *object, PyObject *given)
+{
+    PyObject *kind, *error, *traceback, *result = NULL;
+    if (!PyArg_ParseTuple(given, "OOO", &kind, &error, &traceback)) {
+        return NULL;
+    }
+    if (kind != Py_None && ((File *)object)->file != NULL && (result = file_discard(object, NULL)) == NULL) {
+        return NULL;
+    }
+    Py_XDECREF(result);
+    return file_close(object, NULL);
+}
+
+/* ---- The contents */
+
+static PyObject *file_read_at(PyObject *object, PyObject *given)
+{
+    File *self = (File *)object;
+    uint64_t offset, length, size, page = 0;
+    size_t found;
+    uint8_t *out;
+    int code;
+    if (!PyArg_ParseTuple(given, "O&O&", natural, &offset, natural, &length) || !begin(self)) {
+        return NULL;
+    }
+    size = hunkravy_file_size(self->file);
+    length = offset >= size ? 0 : length < size - offset ? length : size - offset;
+    PyObject *result = new_bytes((size_t)length, &out);
+    if (result == NULL) {
+        PyThread_release_lock(self->lock);
+        return NULL;
+    }
+    CALL(self, code, page, hunkravy_file_read(self->file, offset, out, (size_t)length, &found));
+    return result_of(code, page, NULL, result);
+}
+
+/* Fills a buffer from a place on, and returns how many bytes there are. */
+static PyObject *file_read_into(PyObject *object, PyObject *given)
+{
+    File *self = (File *)object;
+    Py_buffer buffer;
+    uint64_t offset, page;
+    size_t found = 0;
+    int code;
+    if (!PyArg_ParseTuple(given, "O&w*", natural, &offset, &buffer)) {
+        return NULL;
+    }
+    if (begin(self)) {
+        CALL(self, code, page, hunkravy_file_read(self->file, offset, buffer.buf, (size_t)buffer.len, &found));
+        (void)result_of(code, page, NULL, NULL);
+    }
+    PyBuffer_Release(&buffer);
+    return PyErr_Occurred() == NULL ? PyLong_FromSize_t(found) : NULL;
+}
+
+static PyObject *file_write_at(PyObject *object, PyObject *given)
+{
+    File *self = (File *)object;
+    Py_buffer data;
+    uint64_t offset, page;
+    size_t length;
+    int code;
+    if (!PyArg_ParseTuple(given, "O&y*", natural, &offset, &data)) {
+        return NULL;
+    }
+    length = (size_t)data.len;
+    if (begin(self)) {
+        CALL(self, code, page, hunkravy_file_write(self->file, offset, data.buf, length));
+        (void)result_of(code, page, NULL, NULL);
+    }
+    PyBuffer_Release(&data);
+    return PyErr_Occurred() == NULL ? PyLong_FromSize_t(length) : NULL;
+}
+
+static PyObject *file_truncate(PyObject *object, PyObject *given)
+{
+    File *self = (File *)object;
+    uint64_t size, page;
+    int code;
+    if (!natural(given, &size) || !begin(self)) {
+        return NULL;
+    }
+    CALL(self, code, page, hunkravy_file_truncate(self->file, size));
+    return result_of(code, page, NULL, PyLong_FromUnsignedLongLong(size));
+}
+
+static PyObject *file_size(PyObject *object, void *closure)
+{
+    File *self = (File *)object;
+    (void)closure;
+    if (!begin(self)) {
+        return NULL;
+    }
+    uint64_t size = hunkravy_file_size(self->file);
+    PyThread_release_lock(self->lock);
+    return PyLong_FromUnsignedLongLong(size);
+}
+
+static PyObject *file_closed(PyObject *object, void *closure)
+{
+    (void)closure;
+    return PyBool_FromLong(((File *)object)->file == NULL);
+}
+
+static PyObject *file_is_in_batch(PyObject *object, void *closure)
+{
+    (void)closure;
+    return PyBool_FromLong(((File *)object)->file != NULL && hunkravy_file_is_in_batch(((File *)object)->file));
+}
+
+/* ---- Batches */
+
+/* A batch of a file, and its number while it is open. */
+typedef struct {
+    PyObject_HEAD PyObject *file;
+    uint64_t number;
+} Batch;
+
+static PyObject *batch_new(PyTypeObject *type, PyObject *given, PyObject *named)
+{
+    PyObject *file;
+    (void)named;
+    if (!PyArg_ParseTuple(given, "O", &file)) {
+        return NULL;
+    }
+    Batch *self = (Batch *)PyType_GenericAlloc(type, 0);
+    if (self != NULL) {
+        self->file = Py_NewRef(file);
+    }
+    return (PyObject *)self;
+}
+
+static PyObject *batch_enter(PyObject *object, PyObject *none)
+{
+    Batch *self = (Batch *)object;
+    File *file = (File *)self->file;
+    (void)none;
+    if (self->number != 0) {
+        return PyErr_SetString(PyExc_RuntimeError, "this batch has begun"), NULL;
+    }
+    if (!begin(file)) {
+        return NULL;
+    }
+    int code = hunkravy_file_begin(file->file, &self->number);
+    PyThread_release_lock(file->lock);
+    return result_of(code, 0, NULL, Py_NewRef(self->file));
+}
+
+/* Commits after the outermost block, unless that raised an exception. */
+static PyObject *batch_exit(PyObject *object, PyObject *given)
+{
+    Batch *self = (Batch *)object;
+    File *file = (File *)self->file;
+    PyObject *kind, *error, *traceback;
+    uint64_t number = self->number, page;
+    int code;
+    if (!PyArg_ParseTuple(given, "OOO", &kind, &error, &traceback)) {
+        return NULL;
+    }
+    if (kind != Py_None && file->file == NULL) {
+        Py_RETURN_NONE;
+    }
+    if (!begin(file)) {
+        return NULL;
+    }
+    self->number = 0;
+    CALL(file, code, page,
+        kind == Py_None ? hunkravy_file_end(file->file, number)
+                        : (hunkravy_file_undo(file->file, number), HUNKRAVY_OK));
+    return result_of(code, page, NULL, Py_NewRef(Py_None));
+}
+
+static int batch_traverse(PyObject *object, visitproc visit, void *arg)
+{
+    Py_VISIT(Py_TYPE(object));
+    Py_VISIT(((Batch *)object)->file);
+    return 0;
+}
+
+static int batch_clear(PyObject *object)
+{
+    Py_CLEAR(((Batch *)object)->file);
+    return 0;
+}
+
+static void batch_free(PyObject *object)
+{
+    PyTypeObject *type = Py_TYPE(object);
+    PyObject_GC_UnTrack(object);
+    (void)batch_clear(object);
+    PyObject_GC_Del(object);
+    Py_DECREF(type);
+}
+
+static PyMethodDef batch_methods[] = {
+    {"__enter__", batch_enter, METH_NOARGS, NULL},
+    {"__exit__", batch_exit, METH_VARARGS, NULL},
+    {NULL, NULL, 0, NULL},
+};
+
+static PyType_Slot batch_slots[] = {{Py_tp_new, SLOT(batch_new)}, {Py_tp_dealloc, SLOT(batch_free)},
+    {Py_tp_traverse, SLOT(batch_traverse)}, {Py_tp_clear, SLOT(batch_clear)}, {Py_tp_methods, batch_methods},
+    {0, NULL}};
+
+PyType_Spec batch_spec = {"hunkravy._native.Batch", sizeof(Batch), 0, TYPE_FLAGS | Py_TPFLAGS_HAVE_GC, batch_slots};
+
+static PyMethodDef file_methods[] = {
+    {"create", (PyCFunction)(void (*)(void))file_create, METH_CLASS | METH_VARARGS | METH_KEYWORDS,
+        "create($type, path, key, *, cipher=Aegis256, check_same_thread=True, page_size=None)\n--\n\n"
+        "Creates an empty file at a path where there is none, and opens it. `page_size` is from 256 to 65,536 bytes "
+        "of\n"
+        "contents. A page of the default size fills a block of 4,096 bytes."},
+    {"read_at", file_read_at, METH_VARARGS,
+        "read_at($self, offset, length, /)\n--\n\n"
+        "Returns the bytes of the contents from `offset` on: `length`, or fewer at the end of the contents."},
+    {"_read_into", file_read_into, METH_VARARGS, NULL},
+    {"write_at", file_write_at, METH_VARARGS,
+        "write_at($self, offset, data, /)\n--\n\n"
+        "Writes the data over the contents from `offset` on, and returns their length. Zeros fill a gap in front. "
+        "After an\n"
+        "exception nothing has changed, unless it is one of `commit`."},
+    {"truncate", file_truncate, METH_O,
+        "truncate($self, size, /)\n--\n\n"
+        "Truncates the contents to `size` bytes, or extends them with zeros, and returns `size`. The file itself does "
+        "not\n"
+        "become shorter."},
+    {"commit", file_commit, METH_NOARGS,
+        "commit($self, /)\n--\n\n"
+        "Writes all changes, so that after a crash all of them are there, or none. On return they are. If the journal\n"
+        "cannot be made, or there is no room for longer contents, they are still in memory. After an exception of "
+        "writing\n"
+        "the file is broken: open it again, which gives the contents before the changes or after them."},
+    {"discard", file_discard, METH_NOARGS,
+        "discard($self, /)\n--\n\nDiscards all changes since the last commit, and ends each batch."},
+    {"close", file_close, METH_NOARGS,
+        "close($self, /)\n--\n\n"
+        "Commits the changes, and closes the file. In another process than the one that opened it, it only closes it. "
+        "In\n"
+        "a batch that has not ended it discards the changes, and raises `RuntimeError`."},
+    {"__enter__", file_enter, METH_NOARGS, NULL},
+    {"__exit__", file_exit, METH_VARARGS, NULL},
+    {NULL, NULL, 0, NULL},
+};
+
+static PyGetSetDef file_fields[] = {
+    {"size", file_size, NULL, "The length of the contents in bytes.", NULL},
+    {"closed", file_closed, NULL, "Whether the file is closed.", NULL},
+    {"_is_in_batch", file_is_in_batch, NULL, NULL, NULL},
+    {NULL, NULL, NULL, NULL, NULL},
+};
+
+static PyType_Slot file_slots[] = {{Py_tp_new, SLOT(file_new)}, {Py_tp_init, SLOT(file_init)},
+    {Py_tp_dealloc, SLOT(file_free)}, {Py_tp_methods, file_methods}, {Py_tp_getset, file_fields}, {0, NULL}};
+
+PyType_Spec file_spec = {
+    "hunkravy._native.RandomAccessFile", sizeof(File), 0, TYPE_FLAGS | Py_TPFLAGS_BASETYPE, file_slots};
