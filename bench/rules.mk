@@ -14,7 +14,7 @@ write = python3 bench/table.py $(1)
 bench-peers: $(OUT)/$(BENCH_CPU)/libhunkravy.a
 	$(CC) -std=c11 -O2 $(C_FLAGS) bench/peers.c $< $$(pkg-config --cflags --libs libsodium) -o $(OUT)/$(BENCH_CPU)/peers
 	$(OUT)/$(BENCH_CPU)/peers | $(call write,$(BENCH_FOLDER)/PEERS.md)
-	python3 bench/picture.py bench/x86-64-v3/PEERS.md > bench/x86-64-v3/peers.svg
+	/usr/bin/python3 bench/chart.py bench/x86-64-v3/PEERS.md bench/x86-64-v3/peers.svg
 
 # Random-access files of the Cargo package, beside a plain file and encryption in memory.
 RANDOM_ACCESS = $(OUT)/$(1)/cargo/release/random-access

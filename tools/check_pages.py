@@ -7,7 +7,7 @@
 - A function in a table of contracts is there, and so is each clause or definition that stands beside it: in the contract of
   one of the row's functions, if they are found. So are the definitions in a table of steps.
 - The version of each file that has one is that of VERSION.
-- The speeds of README.md are those of the tables of bench/, and the lengths of docs/RANDOM-ACCESS.md those of the headers.
+- The speeds of README.md are those of the tables of bench/, and the lengths of docs/FORMATS.md those of the headers.
 - A link to a file of the repository leads to one, and its fragment to a heading.
 - A source in Rattle or Rust is named by a `mod` item of the one above it, so no module of tests is left out.
 - A line of a contract has at most 100 columns, one of a source or a page at most 120, but for imports, attributes, tables
@@ -150,8 +150,8 @@ STATED = {
     "README.md": SPEED,
     "rust/README.md": SPEED,
     "python/README.md": SPEED[:1],
-    "docs/RANDOM-ACCESS.md": (
-        "N bytes: {AEGIS128_NONCE_BYTES} for AEGIS-128L, 128X2 and 128X4, and {AEGIS256_NONCE_BYTES} for AEGIS-256, 256X2",
+    "docs/FORMATS.md": (
+        "nonce: {AEGIS128_NONCE_BYTES} for AEGIS-128L, 128X2 and 128X4, and {AEGIS256_NONCE_BYTES} for AEGIS-256, 256X2",
         "| 4 | the page size, from {PAGE_MIN_SIZE} to {PAGE_MAX_SIZE:,} bytes |",
         "| {PAGE_ID_BYTES} | the file's ID |",
         "| {PAGE_TAG_BYTES} | the tag |",
@@ -160,7 +160,7 @@ STATED = {
         "{most_contents:,} bytes of contents and a nonce of {AEGIS256_NONCE_BYTES}, or with {contents:,} and",
         "| {JOURNAL_NONCE_BYTES} | a nonce |",
         "| {JOURNAL_MAC_BYTES}, at the end | the MAC",
-        "the first {JOURNAL_BEGINNING_BYTES} bytes of the journal",
+        "The first {JOURNAL_BEGINNING_BYTES} bytes are not authenticated",
     ),
 }
 

@@ -8,3 +8,4 @@ pub mod page_counter;
 pub mod page_table;
 pub mod reopened_file;
 pub mod replaced_value;
+pub mod steps_by_hand;

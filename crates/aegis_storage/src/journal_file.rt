@@ -9,11 +9,11 @@ use std::{fs, io};
 // Only its owner may read and write a file that is made.
 const OWNER_ONLY: u32 = 0o600;
 
-/// A journal in the file `path`, which is replaced by way of the file `copy_path` in the same folder, `folder`. The three
-/// are paths of one file system.
+/// A journal in the file `path`, which is replaced by way of the file `copy_path` in the same folder, `folder`. The
+/// three are paths of one file system.
 ///
-/// The caller locks the storage that the journal is of, so that one process at a time has them. Nothing is proved of what
-/// files hold: `bytes` and `disk` are not known.
+/// The caller locks the storage that the journal is of, so that one process at a time has them. Nothing is proved of
+/// what files hold: `bytes` and `disk` are not known.
 #[derive(Drop)]
 pub struct JournalFile<'a> {
     rt: &'a HostRuntime,

@@ -45,9 +45,9 @@ pub fn recovers_after_a_crash()
         → RecoversUnlessForged key context xs writes (Some (certain ys)) (Some (certain js)) }
 {}
 
-/// While any step of a commit is under way, or has failed, after the steps before it: recovery gives what the storage held
-/// before the commit, or all of its writes over it. A change is pending from the beginning of its step on, so a crash may
-/// leave any part of it. At the number past the last one the commit is over.
+/// While any step of a commit is under way, or has failed, after the steps before it: recovery gives what the storage
+/// held before the commit, or all of its writes over it. A change is pending from the beginning of its step on, so a
+/// crash may leave any part of it. At the number past the last one the commit is over.
 pub fn commit_recovers_at_any_step()
     ensures { (key context journal xs : List ℕ) (writes : Writes) (k : ℕ)
         → IsJournal key context writes journal

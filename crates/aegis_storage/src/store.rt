@@ -61,9 +61,9 @@ pub trait Storage {
         ensures pending { Adds (disk self.old) (disk self.new) (Size size ∷ []) };
 
     /// Replaces what the storage holds by a copy of it that is synced: for a file, the copy is written under another
-    /// name, synced, and renamed over the old one, and then the folder is synced. So all of it is certain with `Ok`, also
-    /// what an earlier sync that failed may have left out: Linux forgets it, and reports no error again. After an error or
-    /// a crash the storage is the old one or the copy. `all` is what the storage holds.
+    /// name, synced, and renamed over the old one, and then the folder is synced. So all of it is certain with `Ok`,
+    /// also what an earlier sync that failed may have left out: Linux forgets it, and reports no error again. After an
+    /// error or a crash the storage is the old one or the copy. `all` is what the storage holds.
     fn replace(&mut self, all: &[u8]) -> io::Result<()>
         requires all { IfSome (bytes self.old) (λ xs. all.now ≡ xs) }
         requires within { length all.now ≤ MAX_STORAGE_BYTES }
@@ -167,7 +167,8 @@ impl Storage for NoJournal {
     }
 }
 
-/// A file has no name of its own to be replaced under: it is no journal. One that is recovered by is a [`crate::JournalFile`].
+/// A file has no name of its own to be replaced under: it is no journal. One that is recovered by is a
+/// [`crate::JournalFile`].
 impl Storage for File {
     ghost possible = { λ _. tt };
 
