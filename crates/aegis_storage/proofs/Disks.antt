@@ -1,24 +1,64 @@
 -- What calls do to what a crash may leave.
 use Rattle.std.specs.Prelude.{⊤}
-use Rattle.std.proofs.Common.{◌≡◌, ℕ, ◌+◌, ◌<◌, ◌≤◌, ◌⊎◌, inl, inr, List, [], ◌∷◌, ◌++◌, None, Some, OnOk, Option, Result, Ok, Err, get_or, length, max, refl, ap, ◌∙◌, arith}
+use Rattle.std.proofs.Common.{◌≡◌, ℕ, ◌+◌, ◌<◌, ◌≤◌, ◌⊎◌, inl, inr, List, [], ◌∷◌, ◌++◌, None, Some, OnErr, OnOk, Option, Result, Ok, Err, get_or, length, max, refl, sym, subst, ap, ◌∙◌, arith}
 use Rattle.std.proofs.lemmas.List.{append-nil, append_assoc, ext_get_or, map-append}
-use Rattle.aegis_storage.specs.Bytes.{IfKnown, WritesAt, overwritten, resized}
-use Rattle.aegis_storage.specs.Disk.{Adds, AreParts, Change, CrashLeaves, Crashed, Disk, IsPart, IsPartOfOne, IsPossible, IsWithin, MakesCertain, Size, Write, Writes, WritesAll, after, applied, certain, changed, changes, after_writes}
+use Rattle.aegis_storage.specs.Bytes.{IfKnown, overwritten, resized}
+use Rattle.aegis_storage.specs.Disk.{Adds, AreLeftOf, AreParts, Change, CrashLeaves, Crashed, Disk, IsPart, IsPartOfOne, IsPossible, IsSynced, IsWithin, MakesSynced, SettlesTo, Size, Spoils, Write, Writes, after, applied, certain, changed, changes, after_writes, spoilt}
+use Rattle.aegis_storage.specs.Steps.{LeavesNoMore}
 use Rattle.aegis_storage.proofs.Overwriting.{after_part, before_part, length-overwritten, within_part}
+
+-- ---- parts of changes
+
+pub itself : (change : Change) → IsPart change change
+itself (Write at bs) = (0, omega arith, omega arith)
+itself (Size n) = refl
+
+part_left : (xs ys : List Change) (part : Change) → IsPartOfOne xs part → IsPartOfOne (xs ++ ys) part
+part_left [] ys part p = absurd p
+part_left (x ∷ xs) ys part (inl p) = inl p
+part_left (x ∷ xs) ys part (inr p) = inr (part_left xs ys part p)
+
+pub parts_left : (xs ys parts : List Change) → AreParts xs parts → AreParts (xs ++ ys) parts
+parts_left xs ys [] are = tt
+parts_left xs ys (part ∷ parts) are = (part_left xs ys part are.0, parts_left xs ys parts are.1)
+
+part_right : (xs ys : List Change) (part : Change) → IsPartOfOne ys part → IsPartOfOne (xs ++ ys) part
+part_right [] ys part p = p
+part_right (x ∷ xs) ys part p = inr (part_right xs ys part p)
+
+pub parts_right : (xs ys parts : List Change) → AreParts ys parts → AreParts (xs ++ ys) parts
+parts_right xs ys [] are = tt
+parts_right xs ys (part ∷ parts) are = (part_right xs ys part are.0, parts_right xs ys parts are.1)
+
+pub parts_append : (changes first second : List Change) → AreParts changes first → AreParts changes second → AreParts changes (first ++ second)
+parts_append changes [] second p q = q
+parts_append changes (part ∷ first) second p q = (p.0, parts_append changes first second p.1 q)
+
+pub all_parts : (more : List Change) → AreParts more more
+all_parts [] = tt
+all_parts (change ∷ more) = (inl (itself change), parts_right (change ∷ []) more more (all_parts more))
+
+no_parts : (parts : List Change) → AreParts [] parts → parts ≡ []
+no_parts [] are = refl
+no_parts (part ∷ parts) are = absurd are.0
+
+pub applied_append : (first second : List Change) (xs : List ℕ) → applied (first ++ second) xs ≡ applied second (applied first xs)
+applied_append [] second xs = refl
+applied_append (change ∷ first) second xs = applied_append first second (changed change xs)
 
 -- ---- what a crash leaves
 
 -- What holds of the synced bytes, and then after each part of a pending change, holds after a crash.
-pub after_parts : (P : List ℕ → Type 0) (disk : Disk) → ((part : Change) (xs : List ℕ) → IsPartOfOne disk.pending part → P xs → P (changed part xs)) → P disk.synced
-    → (bytes : List ℕ) → Crashed disk bytes → P bytes
-after_parts P disk step first bytes crashed = rw crashed.are (all crashed.parts disk.synced crashed.of_pending first)
+pub after_parts : (P : List ℕ → Type 0) (xs : List ℕ) (more : List Change) → ((part : Change) (ys : List ℕ) → IsPartOfOne more part → P ys → P (changed part ys)) → P xs
+    → (bytes : List ℕ) → Crashed (after (certain xs) more) bytes → P bytes
+after_parts P xs more step first bytes crashed = rw (crashed.are, crashed.of_lost) (all crashed.parts xs crashed.of_pending first)
   where
-    all : (parts : List Change) (xs : List ℕ) → AreParts disk.pending parts → P xs → P (applied parts xs)
-    all [] xs are p = p
-    all (part ∷ parts) xs are p = all parts (changed part xs) are.1 (step part xs are.0 p)
+    all : (parts : List Change) (ys : List ℕ) → AreParts more parts → P ys → P (applied parts ys)
+    all [] ys are p = p
+    all (part ∷ parts) ys are p = all parts (changed part ys) are.1 (step part ys are.0 p)
 
 pub certain_only : (xs ys : List ℕ) → Crashed (certain xs) ys → ys ≡ xs
-certain_only xs = after_parts (λ ys. ys ≡ xs) (certain xs) (λ part ys none _. absurd none) refl
+certain_only xs ys crashed = crashed.are ∙ ap (λ (l : List Change). applied l crashed.base) (no_parts crashed.parts crashed.of_pending) ∙ crashed.of_lost
 
 pub certain_has : (P : List ℕ → Type 0) (state : Option Disk) (xs : List ℕ) → P xs → state ≡ Some (certain xs) → CrashLeaves P state
 certain_has P state xs p is = record { disk = certain xs; is = is; has = λ ys crashed. rw (certain_only xs ys crashed) p }
@@ -29,8 +69,15 @@ certain_leaves state xs is = certain_has (λ ys. ys ≡ xs) state xs refl is
 pub has_left : (P : List ℕ → Type 0) (state : Option Disk) (disk : Disk) (bytes : List ℕ) → CrashLeaves P state → state ≡ Some disk → Crashed disk bytes → P bytes
 has_left P state disk bytes leaves is crashed = leaves.has bytes (let same : disk ≡ leaves.disk = (let also = leaves.is in cc) in rw same at crashed)
 
-pub leaves_also : (P Q : List ℕ → Type 0) (state : Option Disk) → ((bytes : List ℕ) → P bytes → Q bytes) → CrashLeaves P state → CrashLeaves Q state
-leaves_also P Q state also leaves = record { disk = leaves.disk; is = leaves.is; has = λ bytes crashed. also bytes (leaves.has bytes crashed) }
+-- a crash leaves some of the pending changes, and those that are pending besides them
+pub crashed_more : (disk : Disk) (more : List Change) (bytes : List ℕ) → Crashed disk bytes → Crashed (after disk more) bytes
+crashed_more disk more bytes crashed = record {
+  base = crashed.base;
+  of_lost = crashed.of_lost;
+  parts = crashed.parts;
+  of_pending = parts_left disk.pending more crashed.parts crashed.of_pending;
+  are = crashed.are;
+}
 
 -- ---- what can be read
 
@@ -54,107 +101,183 @@ pub on_ok_map : {T E P Q : Type 0} (r : Result T E) → (P → Q) → OnOk r P �
 on_ok_map (Ok x) f p = f p
 on_ok_map (Err e) f p = tt
 
--- ---- changes that are pending, too
+pub on_err : {T E P : Type 0} (r : Result T E) → P → OnErr r P
+on_err (Ok x) p = tt
+on_err (Err e) p = p
 
-one_more : (xs more ys : List Change) (part : Change) → IsPartOfOne (xs ++ ys) part → IsPartOfOne (xs ++ (more ++ ys)) part
-one_more [] [] ys part p = p
-one_more [] (m ∷ more) ys part p = inr (one_more [] more ys part p)
-one_more (x ∷ xs) more ys part p = grind (arith, one_more xs more ys part)
+-- ---- a disk within another
 
-pub parts_more : (xs more ys parts : List Change) → AreParts (xs ++ ys) parts → AreParts (xs ++ (more ++ ys)) parts
-parts_more xs more ys [] are = tt
-parts_more xs more ys (part ∷ parts) are = (one_more xs more ys part are.0, parts_more xs more ys parts are.1)
+pub no_more : (disk : Disk) → after disk [] ≡ disk
+no_more disk = rw append-nil refl
 
--- changes that are not made
-pub none_made : (state : Option Disk) (more : List Change) → Adds state state more
-none_made None more = tt
-none_made (Some disk) more = record {
-  also = λ rest bytes crashed. record {
+pub after_after : (disk : Disk) (more rest : List Change) → after (after disk more) rest ≡ after disk (more ++ rest)
+after_after disk more rest = rw append_assoc refl
+
+pub within_itself : (disk : Disk) → IsWithin disk disk
+within_itself disk = record { also = λ more bytes crashed. crashed; settles = λ more bytes settled. settled }
+
+pub within_both : (a b c : Disk) → IsWithin a b → IsWithin b c → IsWithin a c
+within_both a b c p q = record {
+  also = λ more bytes crashed. q.also more bytes (p.also more bytes crashed);
+  settles = λ more bytes settled. p.settles more bytes (q.settles more bytes settled);
+}
+
+pub within_crashed : (a b : Disk) → IsWithin a b → LeavesNoMore a b
+within_crashed a b p bytes crashed =
+    subst (λ (d : Disk). Crashed d bytes) (no_more b) (p.also [] bytes (subst (λ (d : Disk). Crashed d bytes) (sym (no_more a)) crashed))
+
+pub within_settles : (a b : Disk) (bytes : List ℕ) → IsWithin a b → SettlesTo b bytes → SettlesTo a bytes
+within_settles a b bytes p settled =
+    subst (λ (d : Disk). SettlesTo d bytes) (no_more a) (p.settles [] bytes (subst (λ (d : Disk). SettlesTo d bytes) (sym (no_more b)) settled))
+
+pub within_after : (a b : Disk) (more : List Change) → IsWithin a b → IsWithin (after a more) (after b more)
+within_after a b more p = record {
+  also = λ rest bytes crashed.
+      subst (λ (d : Disk). Crashed d bytes) (sym (after_after b more rest)) (p.also (more ++ rest) bytes (subst (λ (d : Disk). Crashed d bytes) (after_after a more rest) crashed));
+  settles = λ rest bytes settled.
+      subst (λ (d : Disk). SettlesTo d bytes) (sym (after_after a more rest)) (p.settles (more ++ rest) bytes (subst (λ (d : Disk). SettlesTo d bytes) (after_after b more rest) settled));
+}
+
+-- one more layer is lost
+left_more : (layers : List (List Change)) (layer : List Change) (before base bytes : List ℕ) (parts : List Change) → AreLeftOf layers before base → AreParts layer parts → bytes ≡ applied parts base
+    → AreLeftOf (layers ++ layer ∷ []) before bytes
+left_more [] layer before base bytes parts left of are = (parts, of, are ∙ ap (applied parts) left)
+left_more (first ∷ layers) layer before base bytes parts left of are = (left.0, left.1, left_more layers layer (applied left.0 before) base bytes parts left.2 of are)
+
+-- what is left with it
+record LeftMore (layers : List (List Change)) (layer : List Change) (before bytes : List ℕ) : Type 0 where
+  base : List ℕ
+  left : AreLeftOf layers before base
+  parts : List Change
+  of : AreParts layer parts
+  are : bytes ≡ applied parts base
+
+more_left : (layers : List (List Change)) (layer : List Change) (before bytes : List ℕ) → AreLeftOf (layers ++ layer ∷ []) before bytes → LeftMore layers layer before bytes
+more_left [] layer before bytes left = record { base = before; left = refl; parts = left.0; of = left.1; are = left.2 }
+more_left (first ∷ layers) layer before bytes left =
+    let rest = more_left layers layer (applied left.0 before) bytes left.2 in record { base = rest.base; left = (left.0, left.1, rest.left); parts = rest.parts; of = rest.of; are = rest.are }
+
+-- what a crash leaves is what a later one may begin with
+pub crashed_left : (disk : Disk) (bytes : List ℕ) → Crashed disk bytes → AreLeftOf (disk.lost ++ disk.pending ∷ []) disk.synced bytes
+crashed_left disk bytes crashed = left_more disk.lost disk.pending disk.synced crashed.base bytes crashed.parts crashed.of_lost crashed.of_pending crashed.are
+
+pub left_crashed : (disk : Disk) (bytes : List ℕ) → AreLeftOf (disk.lost ++ disk.pending ∷ []) disk.synced bytes → Crashed disk bytes
+left_crashed disk bytes left =
+    let rest = more_left disk.lost disk.pending disk.synced bytes left in record { base = rest.base; of_lost = rest.left; parts = rest.parts; of_pending = rest.of; are = rest.are }
+
+-- a crash leaves as much after a call that failed
+pub spoilt_crashed : (disk : Disk) → LeavesNoMore (spoilt disk) disk
+spoilt_crashed disk bytes crashed =
+    left_crashed disk bytes (rw (crashed.are ∙ ap (λ (l : List Change). applied l crashed.base) (no_parts crashed.parts crashed.of_pending)) crashed.of_lost)
+
+pub within_spoilt : (a b : Disk) → IsWithin a b → IsWithin (spoilt a) (spoilt b)
+within_spoilt a b p = record {
+  also = λ more bytes crashed. record {
+    base = crashed.base;
+    of_lost = crashed_left b crashed.base (within_crashed a b p crashed.base (left_crashed a crashed.base crashed.of_lost));
     parts = crashed.parts;
-    of_pending = rw append_assoc (parts_more disk.pending more rest crashed.parts crashed.of_pending);
+    of_pending = crashed.of_pending;
     are = crashed.are;
   };
+  settles = λ more bytes settled base left. settled base (crashed_left b base (within_crashed a b p base (left_crashed a base left)));
 }
 
--- certain bytes, after a change that is made at once, or not at all
-pub made : (xs zs : List ℕ) (change : Change) → zs ≡ changed change xs → IsWithin (certain zs) (after (certain xs) (change ∷ []))
-made xs zs change is = record {
+-- certain bytes stay certain after a call that failed
+spoilt_certain : (xs : List ℕ) → IsWithin (spoilt (certain xs)) (certain xs)
+spoilt_certain xs = record {
   also = λ rest bytes crashed. record {
-    parts = change ∷ crashed.parts;
-    of_pending = (inl (itself change), parts_more [] (change ∷ []) rest crashed.parts crashed.of_pending);
-    are = crashed.are ∙ ap (applied crashed.parts) is;
+    base = xs;
+    of_lost = refl;
+    parts = crashed.parts;
+    of_pending = crashed.of_pending;
+    are = crashed.are ∙ ap (applied crashed.parts) (nothing crashed.base crashed.of_lost);
   };
+  settles = λ rest bytes settled base left. ap (applied rest) (nothing base left) ∙ settled xs refl;
 }
   where
-    itself : (change : Change) → IsPart change change
-    itself (Write at bs) = (0, omega arith, omega arith)
-    itself (Size n) = refl
+    nothing : (base : List ℕ) → AreLeftOf ([] ∷ []) xs base → base ≡ xs
+    nothing base left = left.2 ∙ ap (λ (l : List Change). applied l xs) (no_parts left.0 left.1)
 
-pub unmade : (xs zs : List ℕ) (more : List Change) → zs ≡ xs → IsWithin (certain zs) (after (certain xs) more)
-unmade xs zs more same = rw same (none_made (Some (certain xs)) more)
+pub stays_certain : (old new : Disk) (xs : List ℕ) → IsWithin new (spoilt old) → IsWithin old (certain xs) → IsWithin new (certain xs)
+stays_certain old new xs p q =
+    within_both new (spoilt old) (certain xs) p (within_both (spoilt old) (spoilt (certain xs)) (certain xs) (within_spoilt old (certain xs) q) (spoilt_certain xs))
 
-pub adds_more : (a b c : Option Disk) (xs ys : List Change) → Adds a b xs → Adds b c ys → Adds a c (xs ++ ys)
-adds_more None b c xs ys p q = tt
-adds_more (Some a) None c xs ys p q = absurd p
-adds_more (Some a) (Some b) None xs ys p q = absurd q
-adds_more (Some a) (Some b) (Some c) xs ys p q = record {
-  also = λ more bytes crashed.
-      simp append_assoc (simp append_assoc at (p.also (ys ++ more) bytes (simp append_assoc at (q.also more bytes crashed))));
-}
+-- ---- what a sync makes certain
 
--- the same, and a sync, which adds nothing
-pub adds_synced : (a b c : Option Disk) (xs : List Change) → Adds a b xs → Adds b c [] → Adds a c xs
-adds_synced a b c xs p q = rw append-nil at (adds_more a b c xs [] p q)
+pub settles_after : (xs : List ℕ) (more : List Change) → SettlesTo (after (certain xs) more) (applied more xs)
+settles_after xs more base left = ap (applied more) left
 
--- a crash leaves no more than of a disk that is known
-pub left : (old new : Option Disk) (disk : Disk) (more : List Change) → Adds old new more → old ≡ Some disk → CrashLeaves (Crashed (after disk more)) new
-left old new disk more adds is = cases new (rw is at adds)
-  where
-    cases : (new : Option Disk) → Adds (Some disk) new more → CrashLeaves (Crashed (after disk more)) new
-    cases None a = absurd a
-    cases (Some now) a = record { disk = now; is = refl; has = λ bytes crashed. simp append-nil at (a.also [] bytes (simp append-nil crashed)) }
+pub settles_certain : (xs : List ℕ) → SettlesTo (certain xs) xs
+settles_certain xs base left = left
 
-pub left_synced : (old new : Option Disk) (disk : Disk) → Adds old new [] → old ≡ Some disk → CrashLeaves (Crashed disk) new
-left_synced old new disk adds is = simp append-nil at (left old new disk [] adds is)
-
-pub synced_leaves : (P : List ℕ → Type 0) (old new : Option Disk) → CrashLeaves P old → Adds old new [] → CrashLeaves P new
-synced_leaves P old new leaves adds = leaves_also _ P new leaves.has (left_synced old new leaves.disk adds leaves.is)
-
--- ---- known bytes that are changed
-
--- before a change, after it, and after the sync
-pub changed_certain : (f : List ℕ → List ℕ) (more : List Change) (xs : List ℕ) (a b : Option (List ℕ)) (old over new : Option Disk) → IsPossible a old → old ≡ Some (certain xs) → Adds old over more
-    → IfKnown (λ xs ys. ys ≡ f xs) a b → MakesCertain b over new → new ≡ Some (certain (f xs))
-changed_certain f more xs a b old over new possible is adds made certainly =
-    let now = left old over (certain xs) more adds is in certainly now.disk (f xs) now.is (known b (rw (readable_certain a old xs possible is) at made))
-  where
-    known : (b : Option (List ℕ)) → IfKnown (λ xs ys. ys ≡ f xs) (Some xs) b → b ≡ Some (f xs)
-    known None k = absurd k
-    known (Some ys) k = ap Some k
+-- a disk of which a crash leaves these bytes alone
+pub settles_only : (disk : Disk) (xs : List ℕ) → ((ys : List ℕ) → Crashed disk ys → ys ≡ xs) → SettlesTo disk xs
+settles_only disk xs only base left = only (applied disk.pending base) (record { base = base; of_lost = left; parts = disk.pending; of_pending = all_parts disk.pending; are = refl })
 
 pub resized_none : (xs : List ℕ) → resized xs 0 ≡ []
 resized_none xs = grind arith
 
--- a journal that is emptied
-pub cut : (xs : List ℕ) (old new : Option Disk) → old ≡ Some (certain xs) → Adds old new (Size 0 ∷ []) → CrashLeaves (λ ys. (ys ≡ xs) ⊎ (ys ≡ [])) new
-cut xs old new is adds =
-    leaves_also _ (λ ys. (ys ≡ xs) ⊎ (ys ≡ [])) new (after_parts _ (after (certain xs) (Size 0 ∷ [])) (λ part ys is _. step part ys is) (inl refl)) (left old new (certain xs) (Size 0 ∷ []) adds is)
-  where
-    step : (part : Change) (ys : List ℕ) → IsPartOfOne (Size 0 ∷ []) part → (changed part ys ≡ xs) ⊎ (changed part ys ≡ [])
-    step part ys is = grind (arith, resized_none)
+-- a journal that is emptied, whatever was lost of it
+pub settles_emptied : (disk : Disk) → SettlesTo (after disk (Size 0 ∷ [])) []
+settles_emptied disk base left = applied_append disk.pending (Size 0 ∷ []) base ∙ resized_none (applied disk.pending base)
+
+-- after any part of it, with nothing else pending, the journal is as it was, or empty
+emptied_parts : (parts : List Change) (xs : List ℕ) → AreParts (Size 0 ∷ []) parts → (applied parts xs ≡ xs) ⊎ (applied parts xs ≡ [])
+emptied_parts [] xs are = inl refl
+emptied_parts (Write at bs ∷ parts) xs are = elim are.0 [ inl none ↦ absurd none | inr none ↦ absurd none ]
+emptied_parts (Size n ∷ parts) xs are = elim are.0 [
+  | inl is ↦ inr (elim (emptied_parts parts (resized xs n) are.1) [
+      | inl same ↦ same ∙ ap (resized xs) is ∙ resized_none xs
+      | inr none ↦ none
+    ])
+  | inr none ↦ absurd none
+]
+
+pub emptied : (disk : Disk) (bytes : List ℕ) → disk.pending ≡ [] → Crashed (after disk (Size 0 ∷ [])) bytes → Crashed disk bytes ⊎ (bytes ≡ [])
+emptied disk bytes none crashed = elim (emptied_parts crashed.parts crashed.base (rw none at crashed.of_pending)) [
+  | inl same ↦ inl (record { base = crashed.base; of_lost = crashed.of_lost; parts = []; of_pending = tt; are = crashed.are ∙ same })
+  | inr empty ↦ inr (crashed.are ∙ empty)
+]
+
+-- ---- vectors
+
+-- certain bytes, after a change that is made at once
+pub made : (xs zs : List ℕ) (change : Change) → zs ≡ changed change xs → IsWithin (certain zs) (after (certain xs) (change ∷ []))
+made xs zs change is = record {
+  also = λ rest bytes crashed. record {
+    base = xs;
+    of_lost = refl;
+    parts = change ∷ crashed.parts;
+    of_pending = (inl (itself change), parts_right (change ∷ []) rest crashed.parts crashed.of_pending);
+    are = crashed.are ∙ ap (applied crashed.parts) (crashed.of_lost ∙ is);
+  };
+  settles = λ rest bytes settled base left. ap (applied rest) (left ∙ is) ∙ settled xs refl;
+}
+
+-- and after a call that failed
+pub unmade : (xs zs : List ℕ) (more : List Change) → zs ≡ xs → IsWithin (certain zs) (spoilt (after (certain xs) more))
+unmade xs zs more same = record {
+  also = λ rest bytes crashed. record {
+    base = zs;
+    of_lost = ([], tt, same);
+    parts = crashed.parts;
+    of_pending = crashed.of_pending;
+    are = crashed.are ∙ ap (applied crashed.parts) crashed.of_lost;
+  };
+  settles = λ rest bytes settled base left. ap (applied rest) left ∙ settled zs ([], tt, same);
+}
+
+pub synced_certain : (xs : List ℕ) → MakesSynced (certain xs) (certain xs)
+synced_certain xs = record {
+  certainly = λ bytes settled. ap certain (settled xs refl);
+  otherwise = unmade xs xs [] refl;
+}
 
 -- ---- one write after the other
 
 pub written_more : (writes : Writes) (at : ℕ) (bs xs : List ℕ) → after_writes (writes ++ (at, bs) ∷ []) xs ≡ overwritten (after_writes writes xs) at bs
 written_more [] at bs xs = refl
 written_more (write ∷ writes) at bs xs = written_more writes at bs (overwritten xs write.0 write.1)
-
-pub all_more_written : (writes : Writes) (at : ℕ) (bs : List ℕ) (a b c : Option (List ℕ)) → WritesAll a b writes → WritesAt b c at bs → WritesAll a c (writes ++ (at, bs) ∷ [])
-all_more_written writes at bs a b c all one = grind (arith, written_more)
-
--- and writes after writes are pending, too
-pub adds_writes : (writes more : Writes) (a b c : Option Disk) → Adds a b (changes writes) → Adds b c (changes more) → Adds a c (changes (writes ++ more))
-adds_writes writes more a b c p q = rw map-append (adds_more a b c (changes writes) (changes more) p q)
 
 -- ---- parts of writes, and the writes again
 

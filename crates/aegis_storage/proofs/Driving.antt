@@ -1,12 +1,11 @@
 -- Commits and recoveries whose steps stopped, or came to their end.
-use Rattle.std.proofs.Common.{◌≡◌, ℕ, List, [], Err, IfSome, None, OnOk, Ok, Option, Result, Some, ap, length, refl, subst, subst₂, sym, take, ◌∙◌}
-use Rattle.aegis_storage.specs.Disk.{CrashLeaves, Crashed, Disk, IsPossible, Writes, WritesAll, after_writes, certain}
+use Rattle.std.proofs.Common.{◌≡◌, ℕ, List, [], Err, IfSome, None, OnOk, Ok, Option, Result, Some, ap, length, subst, subst₂, sym, take, ◌∙◌}
+use Rattle.aegis_storage.specs.Disk.{Crashed, Disk, IsPossible, Writes, WritesAll, after_writes, certain}
 use Rattle.aegis_storage.specs.Journal.{HasBeginning, IsAtRest, IsJournal, IsNoForgery, KeepsBeginning, RecoversKnown, RecoversUnlessForged, RestsAtEither}
-use Rattle.aegis_storage.specs.Steps.{AreRedone, Held, Meets, commit_steps, held, journal_after, recovery_steps, storage_after}
-use Rattle.aegis_storage.proofs.Disks.{has_left, leaves_also, readable}
-use Rattle.aegis_storage.proofs.StepFacts.{Recoverable, commit_ends, during, found_one, recovers_within, recovery_begins_between, recovery_ends}
-use Rattle.aegis_storage.proofs.StepLaws.{commit_begins, commit_recovers, long, recovery_recovers}
-use Rattle.aegis_storage.proofs.Stepping.{Stopped, known_redone, meets_certain, meets_disk, meets_exact}
+use Rattle.aegis_storage.specs.Steps.{AreRedone, Held, Knows, LeavesOne, Recoverable, Taken, commit_steps, held, journal_effect, recovery_steps, storage_effect}
+use Rattle.aegis_storage.proofs.Disks.{has_left, readable, readable_certain}
+use Rattle.aegis_storage.proofs.StepLaws.{commit_begins, commit_recovers, commit_rests, recovery_begins, recovery_recovers, recovery_rests}
+use Rattle.aegis_storage.proofs.Stepping.{Stopped, known_redone}
 
 pub on_ok_both : {T E P Q R : Type 0} (r : Result T E) → (P → Q → R) → OnOk r P → OnOk r Q → OnOk r R
 on_ok_both (Ok x) f p q = f p q
@@ -14,29 +13,26 @@ on_ok_both (Err e) f p q = tt
 
 -- ---- a commit
 
+rests_known : (b : Option (List ℕ)) (d : Option Disk) (xs : List ℕ) → IsPossible b d → d ≡ Some (certain xs) → Knows (held xs) b d
+rests_known b d xs possible is = (readable_certain b d xs possible is, is)
+
 pub commit_stopped : (key context xs js : List ℕ) (writes : Writes) (sb jb : Option (List ℕ)) (sd sd' jd jd' : Option Disk) → IsPossible sb sd → IsPossible jb jd → IsJournal key context writes js → IsAtRest sd jd xs
     → Stopped writes js (commit_steps (length writes)) sb jb sd sd' jd jd' → RecoversUnlessForged key context xs writes sd' jd'
 commit_stopped key context xs js writes sb jb sd sd' jd jd' p q whole rest stopped =
-    recovers_within key context xs writes _ _ sd' jd' (stopped.1 (held xs) (meets_certain sb sd xs p rest.storage_is)) (stopped.2 (held []) (meets_certain jb jd [] q rest.journal_is))
-    (commit_recovers key context js xs writes stopped.0 whole)
-
--- what a crash may leave in the model keeps the beginning, and so do fewer states
-fewer_begin : (beginning : List ℕ) (disk : Disk) (state : Option Disk) → KeepsBeginning beginning (Some disk) → CrashLeaves (Crashed disk) state → KeepsBeginning beginning state
-fewer_begin beginning disk state keeps leaves = leaves_also (Crashed disk) (HasBeginning beginning) state (λ bytes crashed. has_left (HasBeginning beginning) (Some disk) disk bytes keeps refl crashed) leaves
+    let s = stopped.1 (held xs) (rests_known sb sd xs p rest.storage_is) in
+    let j = stopped.2 (held []) (rests_known jb jd [] q rest.journal_is) in rw (s.is, j.is) (commit_recovers key context js xs writes stopped.0 s.new j.new whole s.so j.so)
 
 pub commit_stopped_begins : (key context js beginning : List ℕ) (writes : Writes) (sb jb : Option (List ℕ)) (sd sd' jd jd' : Option Disk) → IsPossible jb jd → IsJournal key context writes js → take 512 js ≡ beginning
     → jd ≡ Some (certain []) → Stopped writes js (commit_steps (length writes)) sb jb sd sd' jd jd' → KeepsBeginning beginning jd'
 commit_stopped_begins key context js beginning writes sb jb sd sd' jd jd' q whole begins empty stopped =
-    rw (← begins) (fewer_begin (take 512 js) _ jd' (commit_begins key context js writes stopped.0 whole) (stopped.2 (held []) (meets_certain jb jd [] q empty)))
+    let j = stopped.2 (held []) (rests_known jb jd [] q empty) in rw (← begins, j.is) (commit_begins key context js writes stopped.0 j.new whole j.so)
 
-pub commit_ended : (key context xs js : List ℕ) (writes : Writes) (sb jb sb' jb' : Option (List ℕ)) (sd sd' jd jd' : Option Disk) → IsPossible sb sd → IsPossible jb jd → IsJournal key context writes js
-    → ((h : Held) → Meets sb sd h → Meets sb' sd' (storage_after writes (commit_steps (length writes)) h)) → ((h : Held) → Meets jb jd h → Meets jb' jd' (journal_after js (commit_steps (length writes)) h))
+pub commit_ended : (key context xs js : List ℕ) (writes : Writes) (sb jb : Option (List ℕ)) (sd sd' jd jd' : Option Disk) → IsPossible sb sd → IsPossible jb jd → IsJournal key context writes js
+    → ((h : Held) → Knows h sb sd → LeavesOne (Taken (storage_effect writes) (commit_steps (length writes)) h) sd') → ((h : Held) → Knows h jb jd → LeavesOne (Taken (journal_effect js) (commit_steps (length writes)) h) jd')
     → IsAtRest sd jd xs → IsAtRest sd' jd' (after_writes writes xs)
-commit_ended key context xs js writes sb jb sb' jb' sd sd' jd jd' p q whole storage journal rest =
-    let ends = commit_ends js xs writes (long key context js writes whole) in record {
-      storage_is = meets_exact sb' sd' _ (after_writes writes xs) ends.0 (storage (held xs) (meets_certain sb sd xs p rest.storage_is));
-      journal_is = meets_exact jb' jd' _ [] ends.1 (journal (held []) (meets_certain jb jd [] q rest.journal_is));
-    }
+commit_ended key context xs js writes sb jb sd sd' jd jd' p q whole storage journal rest =
+    let s = storage (held xs) (rests_known sb sd xs p rest.storage_is) in
+    let j = journal (held []) (rests_known jb jd [] q rest.journal_is) in rw (s.is, j.is) (commit_rests key context js xs writes s.new j.new whole s.so j.so)
 
 -- ---- a recovery
 
@@ -44,8 +40,8 @@ commit_ended key context xs js writes sb jb sb' jb' sd sd' jd jd' p q whole stor
 pub record Start (key context xs : List ℕ) (writes found : Writes) (sb jb : Option (List ℕ)) (sd jd : Option Disk) (js : List ℕ) : Type 0 where
   pub s : Held
   pub disk : Disk
-  pub storage : Meets sb sd s
-  pub journal : Meets jb jd (record { bytes = js; disk = disk })
+  pub storage : Knows s sb sd
+  pub journal : Knows (record { bytes = js; disk = disk }) jb jd
   pub recoverable : Recoverable key context xs writes found s (record { bytes = js; disk = disk })
 
 pub recover_starts : (key context xs : List ℕ) (writes found : Writes) (sb jb : Option (List ℕ)) (sd jd : Option Disk) (read js : List ℕ) → IsPossible sb sd → IsPossible jb jd → IfSome jb (λ ys. read ≡ ys) → js ≡ read
@@ -56,8 +52,8 @@ recover_starts key context xs writes found sb jb sd jd read js p q is_read same 
     let are : js ≡ y.xs = same ∙ rw y.is at is_read in record {
       s = record { bytes = x.xs; disk = recovers.storage_disk };
       disk = recovers.journal_disk;
-      storage = meets_disk sb sd x.xs recovers.storage_disk x.is recovers.storage_is;
-      journal = meets_disk jb jd js recovers.journal_disk (y.is ∙ ap Some (sym are)) recovers.journal_is;
+      storage = (x.is, recovers.storage_is);
+      journal = (y.is ∙ ap Some (sym are), recovers.journal_is);
       recoverable = record {
         storage = x.possible;
         journal = subst (λ (l : List ℕ). Crashed recovers.journal_disk l) (sym are) y.possible;
@@ -70,34 +66,26 @@ recover_starts key context xs writes found sb jb sd jd read js p q is_read same 
 pub recover_stopped : (key context xs : List ℕ) (writes found : Writes) (sb jb : Option (List ℕ)) (sd sd' jd jd' : Option Disk) (js : List ℕ) → Start key context xs writes found sb jb sd jd js
     → Stopped found js (recovery_steps (length found)) sb jb sd sd' jd jd' → RecoversUnlessForged key context xs writes sd' jd'
 recover_stopped key context xs writes found sb jb sd sd' jd jd' js start stopped =
-    let r = start.recoverable in
-    recovers_within key context xs writes _ _ sd' jd' (stopped.1 start.s start.storage) (stopped.2 (record { bytes = js; disk = start.disk }) start.journal)
-    (recovery_recovers key context xs writes found start.s (record { bytes = js; disk = start.disk }) stopped.0 r.storage r.journal r.recovers r.no_forgery r.redone)
+    let s = stopped.1 start.s start.storage in
+    let j = stopped.2 (record { bytes = js; disk = start.disk }) start.journal in
+    rw (s.is, j.is) (recovery_recovers key context xs writes found start.s (record { bytes = js; disk = start.disk }) s.new j.new stopped.0 start.recoverable s.so j.so)
 
-pub recover_ended : (key context xs : List ℕ) (writes found : Writes) (sb jb sb' jb' : Option (List ℕ)) (sd sd' jd jd' : Option Disk) (js : List ℕ) → Start key context xs writes found sb jb sd jd js
-    → ((h : Held) → Meets sb sd h → Meets sb' sd' (storage_after found (recovery_steps (length found)) h)) → ((h : Held) → Meets jb jd h → Meets jb' jd' (journal_after js (recovery_steps (length found)) h))
+pub recover_ended : (key context xs : List ℕ) (writes found : Writes) (sb jb : Option (List ℕ)) (sd sd' jd jd' : Option Disk) (js : List ℕ) → Start key context xs writes found sb jb sd jd js
+    → ((h : Held) → Knows h sb sd → LeavesOne (Taken (storage_effect found) (recovery_steps (length found)) h) sd') → ((h : Held) → Knows h jb jd → LeavesOne (Taken (journal_effect js) (recovery_steps (length found)) h) jd')
     → RestsAtEither sd' jd' xs writes
-recover_ended key context xs writes found sb jb sb' jb' sd sd' jd jd' js start storage journal =
-    let ends = recovery_ends found start.s (record { bytes = js; disk = start.disk }) in record {
-      bytes = after_writes found start.s.bytes;
-      one = found_one key context xs writes found start.s (record { bytes = js; disk = start.disk }) start.recoverable;
-      rests = record {
-        storage_is = meets_exact sb' sd' _ (after_writes found start.s.bytes) ends.0 (storage start.s start.storage);
-        journal_is = meets_exact jb' jd' _ [] ends.1 (journal (record { bytes = js; disk = start.disk }) start.journal);
-      };
-    }
+recover_ended key context xs writes found sb jb sd sd' jd jd' js start storage journal =
+    let s = storage start.s start.storage in
+    let j = journal (record { bytes = js; disk = start.disk }) start.journal in
+    rw (s.is, j.is) (recovery_rests key context xs writes found start.s (record { bytes = js; disk = start.disk }) s.new j.new start.recoverable s.so j.so)
 
 pub recover_begins : (beginning : List ℕ) (found : Writes) (sb jb : Option (List ℕ)) (sd sd' jd jd' : Option Disk) (read js : List ℕ) → IsPossible jb jd → IfSome jb (λ ys. read ≡ ys) → js ≡ read
     → KeepsBeginning beginning jd → Stopped found js (recovery_steps (length found)) sb jb sd sd' jd jd' → KeepsBeginning beginning jd'
 recover_begins beginning found sb jb sd sd' jd jd' read js q is_read same keeps stopped =
     let y = readable jb jd keeps.disk q keeps.is in
     let are : js ≡ y.xs = same ∙ rw y.is at is_read in
-    let j : Held = record { bytes = js; disk = keeps.disk } in
+    let h : Held = record { bytes = js; disk = keeps.disk } in
     let possible : Crashed keeps.disk js = subst (λ (l : List ℕ). Crashed keeps.disk l) (sym are) y.possible in
-    let known : KeepsBeginning beginning (Some keeps.disk) = subst (λ (a : Option Disk). KeepsBeginning beginning a) keeps.is keeps in
-    fewer_begin beginning _ jd'
-    (during (λ a b. KeepsBeginning beginning (Some b.disk)) found js (recovery_steps (length found)) (held []) j (recovery_begins_between beginning (length found) j possible known) stopped.0)
-    (stopped.2 j (meets_disk jb jd js keeps.disk (y.is ∙ ap Some (sym are)) keeps.is))
+    let j = stopped.2 h (y.is ∙ ap Some (sym are), keeps.is) in rw j.is (recovery_begins beginning (length found) stopped.0 h j.new possible keeps.has j.so)
 
 pub recover_known : (key context : List ℕ) (found : Writes) (jb a b : Option (List ℕ)) (read js : List ℕ) → IfSome jb (λ ys. read ≡ ys) → js ≡ read → AreRedone key context js found → WritesAll a b found
     → RecoversKnown key context jb a b

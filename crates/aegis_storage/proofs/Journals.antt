@@ -5,13 +5,13 @@ use Rattle.std.proofs.lemmas.List.{append-nil, append_assoc, map-append, take-ap
 use Rattle.std.proofs.lemmas.Nat.{from_le_bytes-to_le_bytes_8}
 use Rattle.std.specs.Int.{to_le_bytes, w64}
 use Rattle.aegis_storage.specs.declared.pending.PendingWrite.{PendingWrite}
-use Rattle.aegis_storage.specs.Journal.{AreWithin, entries, entry, Gives, GivesOneOf, IsAtRest, IsFramed, IsJournal, IsOneOf, IsNoForgery, RecoversUnlessForged, RecoversKnown, authenticated, HasBeginning, KeepsBeginning}
-use Rattle.aegis_storage.specs.Disk.{writes_of, Adds, CrashLeaves, Crashed, Disk, IsPossible, MakesCertain, Size, Writes, WritesAll, certain, changes, after_writes, Change, IsPartOfOne, Write, after, changed}
+use Rattle.aegis_storage.specs.Journal.{AreWithin, entries, entry, Gives, GivesOneOf, IsAtRest, IsFramed, IsJournal, IsOneOf, IsNoForgery, IsSafe, RecoversUnlessForged, RecoversKnown, authenticated, HasBeginning, KeepsBeginning}
+use Rattle.aegis_storage.specs.Disk.{writes_of, Crashed, Disk, IsWithin, Size, Writes, WritesAll, certain, changes, after_writes, Change, IsPartOfOne, Write, after, changed}
 use Rattle.aegis_base.specs.Mac.{mac}
 use Rattle.aegis_base.specs.Variant.{Aegis128L}
 use Rattle.aegis_base.proofs.MacFacts.{length_mac}
 use Rattle.aegis_storage.specs.declared.store.TheConstants.{MAX_STORAGE_BYTES}
-use Rattle.aegis_storage.proofs.Disks.{certain_has, certain_leaves, cut, has_left, leaves_also, left, left_synced, readable, written_again, after_parts}
+use Rattle.aegis_storage.proofs.Disks.{after_parts, all_parts, certain_has, certain_only, emptied, has_left, within_crashed, within_itself, written_again}
 use Rattle.aegis_storage.proofs.Overwriting.{kept_part, length-overwritten}
 
 -- ---- writes
@@ -149,88 +149,48 @@ by_journal key context js old writes P is p = record {
 
 -- ---- states
 
-pub recovers_by : (key context xs : List ℕ) (writes : Writes) (P Q : List ℕ → Type 0) (storage journal : Option Disk) → CrashLeaves P storage → CrashLeaves Q journal
-    → ((ys js : List ℕ) → P ys → Q js → IsNoForgery key context writes js → GivesOneOf key context xs (after_writes writes xs) js ys) → RecoversUnlessForged key context xs writes storage journal
-recovers_by key context xs writes P Q storage journal s j gives = record {
-  storage_disk = s.disk;
-  journal_disk = j.disk;
-  storage_is = s.is;
-  journal_is = j.is;
-  gives = λ ys js p q. gives ys js (s.has ys p) (j.has js q);
+-- the writes may be made again
+pub again : (writes : Writes) (xs : List ℕ) → after_writes writes (after_writes writes xs) ≡ after_writes writes xs
+again writes xs = written_again writes (changes writes) xs (all_parts (changes writes))
+
+pub one_written : (writes : Writes) (xs zs : List ℕ) → IsOneOf xs (after_writes writes xs) zs → after_writes writes zs ≡ after_writes writes xs
+one_written writes xs zs (inl before) = ap (after_writes writes) before
+one_written writes xs zs (inr all) = ap (after_writes writes) all ∙ again writes xs
+
+-- What the storage holds is certain: whatever journal a crash leaves, recovery gives the bytes, or all the writes over them.
+pub any_journal : (key context xs : List ℕ) (writes : Writes) (zs : List ℕ) (storage journal : Disk) → IsOneOf xs (after_writes writes xs) zs → IsWithin storage (certain zs)
+    → RecoversUnlessForged key context xs writes (Some storage) (Some journal)
+any_journal key context xs writes zs storage journal one within = record {
+  storage_disk = storage;
+  journal_disk = journal;
+  storage_is = refl;
+  journal_is = refl;
+  gives = λ ys js p q no_forgery. rw (certain_only zs ys (within_crashed storage (certain zs) within ys p)) (record {
+    whole = λ found is. inr (rw (no_forgery found is) (one_written writes xs zs one));
+    other = λ not. one;
+  });
+  safe = inl (zs, within);
+}
+
+-- The journal is certain and whole: whatever a crash leaves of the storage, its writes are made again.
+pub whole_journal : (key context xs : List ℕ) (writes : Writes) (js : List ℕ) (storage journal : Disk) → IsJournal key context writes js → IsWithin journal (certain js)
+    → ((ys : List ℕ) → Crashed storage ys → after_writes writes ys ≡ after_writes writes xs) → RecoversUnlessForged key context xs writes (Some storage) (Some journal)
+whole_journal key context xs writes js storage journal whole within written = record {
+  storage_disk = storage;
+  journal_disk = journal;
+  storage_is = refl;
+  journal_is = refl;
+  gives = λ ys ks p q _. rw (certain_only js ks (within_crashed journal (certain js) within ks q)) (by_journal key context js ys writes (IsOneOf xs (after_writes writes xs)) whole (inr (written ys p)));
+  safe = inr (js, whole, within);
 }
 
 pub rest_recovers : (key context xs : List ℕ) (writes : Writes) (storage journal : Option Disk) (zs : List ℕ) → IsOneOf xs (after_writes writes xs) zs → IsAtRest storage journal zs
     → RecoversUnlessForged key context xs writes storage journal
 rest_recovers key context xs writes storage journal zs one rest =
-    recovers_by key context xs writes _ _ storage journal (certain_leaves storage zs rest.storage_is) (certain_leaves journal [] rest.journal_is)
-    (λ ys js p q _. rw (p, q) (by_empty key context zs (IsOneOf xs (after_writes writes xs)) one))
+    rw (rest.storage_is, rest.journal_is) (any_journal key context xs writes zs (certain zs) (certain []) one (within_itself (certain zs)))
 
 pub at_rest_recovers : (key context xs : List ℕ) (writes : Writes) (storage journal : Option Disk) → IsAtRest storage journal xs → RecoversUnlessForged key context xs writes storage journal
 at_rest_recovers key context xs writes storage journal rest = rest_recovers key context xs writes storage journal xs (inl refl) rest
-
--- while the journal is written
-pub torn_journal : (key context xs : List ℕ) (writes : Writes) (P : List ℕ → Type 0) (storage journal : Option Disk) → storage ≡ Some (certain xs) → CrashLeaves P journal
-    → RecoversUnlessForged key context xs writes storage journal
-torn_journal key context xs writes P storage journal is torn =
-    recovers_by key context xs writes _ P storage journal (certain_leaves storage xs is) torn
-    (λ ys js p _ no_forgery. rw p (record { whole = λ found found_is. inr (ap (λ (l : Writes). after_writes l xs) (no_forgery found found_is)); other = λ not. inl refl }))
-
--- once the journal is certain, and while the writes are made
-pub certain_gives : (key context a b js xs : List ℕ) (state : Option Disk) → state ≡ Some (certain xs) → GivesOneOf key context a b js xs → CrashLeaves (GivesOneOf key context a b js) state
-certain_gives key context a b js xs state is gives = certain_has (GivesOneOf key context a b js) state xs gives is
-
-pub over_gives : (key context a b js xs : List ℕ) (writes : Writes) (old new : Option Disk) → IsJournal key context writes js → IsOneOf a b (after_writes writes xs) → old ≡ Some (certain xs)
-    → Adds old new (changes writes) → CrashLeaves (GivesOneOf key context a b js) new
-over_gives key context a b js xs writes old new whole one is adds =
-    leaves_also _ (GivesOneOf key context a b js) new
-    (λ ys crashed. by_journal key context js ys writes (IsOneOf a b) whole (rw (crashed.are, written_again writes crashed.parts xs crashed.of_pending) one))
-    (left old new (certain xs) (changes writes) adds is)
-
-pub middle : (key context xs : List ℕ) (writes : Writes) (js : List ℕ) (storage journal : Option Disk) → CrashLeaves (GivesOneOf key context xs (after_writes writes xs) js) storage → journal ≡ Some (certain js)
-    → RecoversUnlessForged key context xs writes storage journal
-middle key context xs writes js storage journal from is = recovers_by key context xs writes _ _ storage journal from (certain_leaves journal js is) (λ ys ks p q _. rw q p)
-
--- while the journal is emptied
-pub finish : (key context xs : List ℕ) (writes : Writes) (js zs : List ℕ) (storage journal journal' : Option Disk) → CrashLeaves (GivesOneOf key context xs (after_writes writes xs) js) storage → storage ≡ Some (certain zs)
-    → IsOneOf xs (after_writes writes xs) zs → journal ≡ Some (certain js) → Adds journal journal' (Size 0 ∷ []) → RecoversUnlessForged key context xs writes storage journal'
-finish key context xs writes js zs storage journal journal' from is one journal_is adds =
-    recovers_by key context xs writes _ _ storage journal' (certain_leaves storage zs is) (cut js journal journal' journal_is adds) (λ ys ks p q _. rw p (cases ks q))
-  where
-    cases : (ks : List ℕ) → (ks ≡ js) ⊎ (ks ≡ []) → GivesOneOf key context xs (after_writes writes xs) ks zs
-    cases ks (inl whole) = rw whole (has_left (GivesOneOf key context xs (after_writes writes xs) js) storage (certain zs) zs from is (record { parts = []; of_pending = tt; are = refl }))
-    cases ks (inr none) = rw none (by_empty key context zs (IsOneOf xs (after_writes writes xs)) one)
-
--- ---- syncs
-
--- the storage and the journal are synced, or not
-pub synced_recovers : (key context xs : List ℕ) (writes : Writes) (storage storage' journal journal' : Option Disk) → Adds storage storage' [] → Adds journal journal' [] → RecoversUnlessForged key context xs writes storage journal
-    → RecoversUnlessForged key context xs writes storage' journal'
-synced_recovers key context xs writes storage storage' journal journal' p q recovers =
-    recovers_by key context xs writes _ _ storage' journal' (left_synced storage storage' recovers.storage_disk p recovers.storage_is)
-    (left_synced journal journal' recovers.journal_disk q recovers.journal_is) recovers.gives
-
--- Both are synced, and the journal was read.
-pub record Settled (key context : List ℕ) (storage journal : Option Disk) (a b js : List ℕ) : Type 0 where
-  pub now : List ℕ
-  pub storage_is : storage ≡ Some (certain now)
-  pub journal_is : journal ≡ Some (certain js)
-  pub gives : GivesOneOf key context a b js now
-
--- `a_bytes` are the storage's, and `b_bytes` and `c_bytes` the journal's before and after its sync
-pub settled : (key context xs : List ℕ) (writes : Writes) (a_bytes b_bytes : Option (List ℕ)) (storage storage' journal journal' : Option Disk) (read js : List ℕ)
-    → IsPossible a_bytes storage → IsPossible b_bytes journal → RecoversUnlessForged key context xs writes storage journal → IfSome b_bytes (IsNoForgery key context writes)
-    → MakesCertain a_bytes storage storage' → MakesCertain b_bytes journal journal' → IfSome b_bytes (λ ys. read ≡ ys) → js ≡ read
-    → Settled key context storage' journal' xs (after_writes writes xs) js
-settled key context xs writes a_bytes b_bytes storage storage' journal journal' read js p q recovers no_forgery s t found same =
-    let x = readable a_bytes storage recovers.storage_disk p recovers.storage_is in
-    let y = readable b_bytes journal recovers.journal_disk q recovers.journal_is in
-    let synced = t recovers.journal_disk y.xs recovers.journal_is y.is in
-    let js_are : js ≡ y.xs = same ∙ rw y.is at found in record {
-      now = x.xs;
-      storage_is = s recovers.storage_disk x.xs recovers.storage_is x.is;
-      journal_is = rw js_are synced;
-      gives = rw js_are (recovers.gives x.xs y.xs x.possible y.possible (rw y.is at no_forgery));
-    }
 
 -- ---- what is known
 
@@ -245,13 +205,29 @@ known_other key context js (Some xs) not = record { whole = λ writes is. absurd
 
 -- ---- a crash
 
+pub gives_of : (key context xs : List ℕ) (writes : Writes) (storage journal : Disk) → RecoversUnlessForged key context xs writes (Some storage) (Some journal)
+    → (ys js : List ℕ) → Crashed storage ys → Crashed journal js → IsNoForgery key context writes js → GivesOneOf key context xs (after_writes writes xs) js ys
+gives_of key context xs writes storage journal recovers ys js p q no_forgery =
+    let s : storage ≡ recovers.storage_disk = (let is = recovers.storage_is in cc) in
+    let j : journal ≡ recovers.journal_disk = (let is = recovers.journal_is in cc) in recovers.gives ys js (rw s at p) (rw j at q) no_forgery
+
+pub safe_of : (key context xs : List ℕ) (writes : Writes) (storage journal : Disk) → RecoversUnlessForged key context xs writes (Some storage) (Some journal) → IsSafe key context writes storage journal
+safe_of key context xs writes storage journal recovers =
+    let s : storage ≡ recovers.storage_disk = (let is = recovers.storage_is in cc) in
+    let j : journal ≡ recovers.journal_disk = (let is = recovers.journal_is in cc) in rw (s, j) recovers.safe
+
 pub crashed_recovers : (key context xs : List ℕ) (writes : Writes) (storage journal : Disk) (ys js : List ℕ) → RecoversUnlessForged key context xs writes (Some storage) (Some journal)
     → Crashed storage ys → Crashed journal js → RecoversUnlessForged key context xs writes (Some (certain ys)) (Some (certain js))
-crashed_recovers key context xs writes storage journal ys js recovers p q =
-    let s : storage ≡ recovers.storage_disk = (let is = recovers.storage_is in cc) in
-    let j : journal ≡ recovers.journal_disk = (let is = recovers.journal_is in cc) in
-    recovers_by key context xs writes _ _ (Some (certain ys)) (Some (certain js)) (certain_leaves (Some (certain ys)) ys refl) (certain_leaves (Some (certain js)) js refl)
-    (λ zs ks a b no_forgery. rw (a, b) (recovers.gives ys js (rw s at p) (rw j at q) (rw b at no_forgery)))
+crashed_recovers key context xs writes storage journal ys js recovers p q = record {
+  storage_disk = certain ys;
+  journal_disk = certain js;
+  storage_is = refl;
+  journal_is = refl;
+  gives = λ zs ks a b no_forgery.
+      let same = certain_only js ks b in
+      rw (certain_only ys zs a, same) (gives_of key context xs writes storage journal recovers ys js p q (rw same at no_forgery));
+  safe = inl (ys, within_itself (certain ys));
+}
 
 -- ---- bytes that are appended
 
@@ -270,43 +246,40 @@ follows_part xs all (Write at bs) ys (inl is) before =
 follows_part xs all (Size n) ys (inl is) before = absurd is
 follows_part xs all part ys (inr is) before = absurd is
 
-follows : (xs all : List ℕ) (old new : Option Disk) → old ≡ Some (certain xs) → Adds old new (Write (length xs) all ∷ []) → CrashLeaves (Follows xs (length all)) new
-follows xs all old new is adds =
-    leaves_also _ (Follows xs (length all)) new
-    (after_parts _ (after (certain xs) (Write (length xs) all ∷ [])) (follows_part xs all) (record { first = take_all (length xs) xs (omega arith); most = omega arith }))
-    (left old new (certain xs) (Write (length xs) all ∷ []) adds is)
+follows : (xs all : List ℕ) (bytes : List ℕ) → Crashed (after (certain xs) (Write (length xs) all ∷ [])) bytes → Follows xs (length all) bytes
+follows xs all bytes crashed =
+    after_parts (Follows xs (length all)) xs (Write (length xs) all ∷ []) (follows_part xs all) (record { first = take_all (length xs) xs (omega arith); most = omega arith }) bytes crashed
 
 -- ---- beginnings
 
+-- whatever a crash now leaves of the journal has the beginning
+abbrev pub BeginsAs : (beginning : List ℕ) → Disk → Type 0
+BeginsAs beginning journal = (js : List ℕ) → Crashed journal js → HasBeginning beginning js
+
+pub begins_keeps : (beginning : List ℕ) (journal : Disk) → BeginsAs beginning journal → KeepsBeginning beginning (Some journal)
+begins_keeps beginning journal begins = record { disk = journal; is = refl; has = begins }
+
+pub certain_begins : (beginning js : List ℕ) → HasBeginning beginning js → BeginsAs beginning (certain js)
+certain_begins beginning js has ks crashed = rw (certain_only js ks crashed) has
+
 -- while a journal is emptied
-pub emptied_beginning : (beginning bytes : List ℕ) (old new : Option Disk) → HasBeginning beginning bytes → old ≡ Some (certain bytes) → Adds old new (Size 0 ∷ []) → KeepsBeginning beginning new
-emptied_beginning beginning bytes old new has is adds = leaves_also _ _ new cases (cut bytes old new is adds)
+pub emptied_begins : (beginning : List ℕ) (journal : Disk) → journal.pending ≡ [] → BeginsAs beginning journal → BeginsAs beginning (after journal (Size 0 ∷ []))
+emptied_begins beginning journal nothing begins js crashed = cases (emptied journal js nothing crashed)
   where
-    cases : (js : List ℕ) → (js ≡ bytes) ⊎ (js ≡ []) → HasBeginning beginning js
-    cases js (inl same) = rw same has
-    cases js (inr none) = inl (omega (arith, ap length none))
+    cases : Crashed journal js ⊎ (js ≡ []) → HasBeginning beginning js
+    cases (inl before) = begins js before
+    cases (inr none) = inl (omega (arith, ap length none))
 
 pub empty_beginning : (beginning : List ℕ) (state : Option Disk) → state ≡ Some (certain []) → KeepsBeginning beginning state
 empty_beginning beginning state is = certain_has (HasBeginning beginning) state [] (inl (omega arith)) is
 
 -- while the beginning is written
-pub beginning_begins : (beginning part : List ℕ) (old new : Option Disk) → length part ≤ 512 → old ≡ Some (certain []) → Adds old new (Write 0 part ∷ []) → KeepsBeginning beginning new
-beginning_begins beginning part old new short is adds = leaves_also _ _ new (λ js has. inl (let most = has.most in omega (arith, most, short))) (follows [] part old new is adds)
+pub beginning_begins : (beginning part : List ℕ) → length part ≤ 512 → BeginsAs beginning (after (certain []) (Write 0 part ∷ []))
+beginning_begins beginning part short js crashed = let most = (follows [] part js crashed).most in inl (omega (arith, most, short))
 
 -- while the rest is written
-pub beginning_stays : (beginning rest : List ℕ) (old new : Option Disk) → length beginning ≡ 512 → old ≡ Some (certain beginning) → Adds old new (Write 512 rest ∷ []) → KeepsBeginning beginning new
-beginning_stays beginning rest old new long is adds =
-    leaves_also _ _ new (λ js has. inr (let first = has.first in rw long at first)) (follows beginning rest old new is (rw long adds))
-
--- what is certain after a sync
-pub record KnownBeginning (beginning : List ℕ) (new : Option Disk) : Type 0 where
-  pub bytes : List ℕ
-  pub is : new ≡ Some (certain bytes)
-  pub has : HasBeginning beginning bytes
-
-pub synced_beginning : (beginning : List ℕ) (bytes : Option (List ℕ)) (old new : Option Disk) → IsPossible bytes old → KeepsBeginning beginning old → MakesCertain bytes old new → KnownBeginning beginning new
-synced_beginning beginning bytes old new possible keeps certainly =
-    let r = readable bytes old keeps.disk possible keeps.is in record { bytes = r.xs; is = certainly keeps.disk r.xs keeps.is r.is; has = keeps.has r.xs r.possible }
+pub beginning_stays : (beginning rest : List ℕ) → length beginning ≡ 512 → BeginsAs beginning (after (certain beginning) (Write 512 rest ∷ []))
+beginning_stays beginning rest long js crashed = inr (rw long at ((follows beginning rest js (rw long crashed)).first))
 
 pub crashed_beginning : (beginning : List ℕ) (journal : Disk) (js : List ℕ) → KeepsBeginning beginning (Some journal) → Crashed journal js → KeepsBeginning beginning (Some (certain js))
 crashed_beginning beginning journal js keeps crashed = certain_has (HasBeginning beginning) (Some (certain js)) js (has_left _ (Some journal) journal js keeps refl crashed) refl

@@ -4,4 +4,5 @@ pub mod Overwriting
 pub mod StepFacts
 pub mod StepLaws
 pub mod Stepping
+pub mod Taking
 pub mod Driving

@@ -1,77 +1,68 @@
--- Storages that meet the model, step by step.
+-- The steps that a driver takes, on storages whose bytes and disks may be known.
 use Rattle.std.proofs.Common.{◌≡◌, ℕ, zero, suc, ◌+◌, ◌-◌, ◌<◌, ◌≤◌, inl, inr, List, [], ◌∷◌, ◌++◌, IfSome, None, Some, Option, drop, get_or, length, map, min, take, refl, subst, sym, ap, ◌∙◌, arith}
 use Rattle.std.proofs.lemmas.List.{append-nil, drop_all, length-append, take_all}
-use Rattle.std.proofs.Math.Seq.{drop-cons}
+use Rattle.std.proofs.Math.Seq.{drop-cons, take-suc}
 use Rattle.std.specs.Io.KnownBytes.{Keeps}
 use Rattle.std.specs.List.{range_with_len}
 use Rattle.aegis_storage.specs.Bytes.{IfKnown, WritesAt}
-use Rattle.aegis_storage.specs.Disk.{Adds, Change, Disk, IsPossible, Write, Writes, WritesAll, after, after_writes, certain, changed}
+use Rattle.aegis_storage.specs.Disk.{Adds, Change, Disk, IsSynced, IsWithin, MakesSynced, Spoils, Write, Writes, WritesAll, after, after_writes, changed, spoilt}
 use Rattle.aegis_storage.specs.Journal.{AreWithin, RecoversKnown, entries, entry}
-use Rattle.aegis_storage.specs.Steps.{AreRedone, Changes, Effect, Has, Held, IsNext, LeavesWithin, Meets, Nothing, Syncs, after_effect, changes_of, during_effect, held, journal_after, journal_during, journal_effect, made_with, step_at, steps_of, storage_after, storage_during, storage_effect, write_of, writing_steps}
+use Rattle.aegis_storage.specs.Steps.{AreRedone, Changes, Does, Effect, Fails, Has, Held, IsNext, Knows, Leaves, LeavesOne, Nothing, Replaces, StopsAt, Syncs, Taken, held, journal_effect, made_with, step_at, steps_of, storage_effect, write_of, writing_steps}
 use Rattle.aegis_storage.specs.declared.steps.Order.{Order}
 use Rattle.aegis_storage.specs.declared.steps.Order.TheVariants.{Commit, Recovery}
 use Rattle.aegis_storage.specs.declared.steps.Step.{Step}
 use Rattle.aegis_storage.specs.declared.steps.Step.TheVariants.{Done, EmptyJournal, MakeWrite, ReplaceJournal, SyncJournal, SyncStorage, WriteBeginning, WriteRest}
 use Rattle.aegis_storage.specs.declared.store.TheConstants.{MAX_STORAGE_BYTES}
-use Rattle.aegis_storage.proofs.Disks.{adds_more, left, left_synced, none_made, readable_certain}
+use Rattle.aegis_storage.proofs.Disks.{no_more, written_more}
 use Rattle.aegis_storage.proofs.Journals.{known_whole, same_entry}
-use Rattle.aegis_storage.proofs.StepFacts.{ends, far, long-makes, makes, recovery_ends, step_ended, step_making, step_more, take_making, writing_ends}
+use Rattle.aegis_storage.proofs.StepFacts.{ends, far, long-makes, makes, step_ended, step_making, take_making}
+use Rattle.aegis_storage.proofs.Taking.{failed_changes, failed_syncs, not_begun, returned, taken_more}
 
--- ---- storages that meet the model
+-- ---- one call
 
-pub meets_disk : (bytes : Option (List ℕ)) (disk : Option Disk) (xs : List ℕ) (d : Disk) → bytes ≡ Some xs → disk ≡ Some d → Meets bytes disk (record { bytes = xs; disk = d })
-meets_disk bytes disk xs d same is = record { read = same; within = rw is (none_made (Some d) []); exact = λ _. is }
+-- the bytes and the disk are known, and are something of which P holds
+pub record KnowsOne (P : Held → Type 0) (bytes : Option (List ℕ)) (disk : Option Disk) : Type 0 where
+  pub new : Held
+  pub is : Knows new bytes disk
+  pub so : P new
 
-pub meets_certain : (bytes : Option (List ℕ)) (disk : Option Disk) (xs : List ℕ) → IsPossible bytes disk → disk ≡ Some (certain xs) → Meets bytes disk (held xs)
-meets_certain bytes disk xs possible is = meets_disk bytes disk xs (certain xs) (readable_certain bytes disk xs possible is) is
-
-added : (disk : Disk) (more : List Change) (old new : Option Disk) → Adds (Some disk) old [] → Adds old new more → Adds (Some (after disk more)) new []
-added disk more old new p q = cases new (adds_more (Some disk) old new [] more p q)
+kept : (xs : List ℕ) (a b : Option (List ℕ)) → a ≡ Some xs → Keeps a b → b ≡ Some xs
+kept xs a b is keeps = cases b (rw is at keeps)
   where
-    cases : (new : Option Disk) → Adds (Some disk) new more → Adds (Some (after disk more)) new []
-    cases None adds = absurd adds
-    cases (Some now) adds = rw append-nil adds
+    cases : (b : Option (List ℕ)) → Keeps (Some xs) b → b ≡ Some xs
+    cases None k = absurd k
+    cases (Some ys) k = ap Some k
 
-pub meets_after : (effect : Effect) (a b : Option (List ℕ)) (old new : Option Disk) (h : Held) → Has effect a b old new → Meets a old h → Meets b new (after_effect effect h)
-meets_after Nothing a b old new h has meets = rw (has.0, has.1) meets
-meets_after (Changes change) a b old new h has meets = record {
-  read = known b (rw meets.read at has.0);
-  within = added h.disk (change ∷ []) old new meets.within has.1;
-  exact = λ none. absurd (let long = ap length none in omega (arith, long, length-append h.disk.pending (change ∷ [])));
-}
+known : {X : Type 0} → (R : X → X → Type 0) (x : X) (a b : Option X) → a ≡ Some x → IfKnown R a b → (y : X) × (b ≡ Some y) × R x y
+known {X = X} R x a b is k = cases b (rw is at k)
   where
-    known : (b : Option (List ℕ)) → IfKnown (λ xs ys. ys ≡ changed change xs) (Some h.bytes) b → b ≡ Some (changed change h.bytes)
-    known None k = absurd k
-    known (Some ys) k = ap Some k
-meets_after Syncs a b old new h has meets =
-    let disk = left (Some h.disk) old h.disk [] meets.within refl in
-    let is : new ≡ Some (certain h.bytes) = has.1 disk.disk h.bytes disk.is meets.read in
-    record { read = kept b (rw meets.read at has.0); within = rw is (none_made (Some (certain h.bytes)) []); exact = λ _. is }
-  where
-    kept : (b : Option (List ℕ)) → Keeps (Some h.bytes) b → b ≡ Some h.bytes
-    kept None k = absurd k
-    kept (Some ys) k = ap Some k
+    cases : (b : Option X) → IfKnown R (Some x) b → (y : X) × (b ≡ Some y) × R x y
+    cases None p = absurd p
+    cases (Some y) p = (y, refl, p)
 
-pub meets_during : (effect : Effect) (a : Option (List ℕ)) (old new : Option Disk) (h : Held) → Adds old new (changes_of effect) → Meets a old h → LeavesWithin new (during_effect effect h)
-meets_during Nothing a old new h adds meets = left_synced (Some h.disk) new h.disk (adds_more (Some h.disk) old new [] [] meets.within adds) refl
-meets_during (Changes change) a old new h adds meets =
-    left_synced (Some (after h.disk (change ∷ []))) new (after h.disk (change ∷ [])) (added h.disk (change ∷ []) old new meets.within adds) refl
-meets_during Syncs a old new h adds meets = left_synced (Some h.disk) new h.disk (adds_more (Some h.disk) old new [] [] meets.within adds) refl
+pub known_does : (effect : Effect) (h : Held) (b b' : Option (List ℕ)) (d d' : Option Disk) → Has effect b b' d d' → Knows h b d → KnowsOne (Does effect h) b' d'
+known_does Nothing h b b' d d' has is = record { new = h; is = (has.0 ∙ is.0, has.1 ∙ is.1); so = refl }
+known_does (Changes change) h b b' d d' has is =
+    let bytes = known (λ xs ys. ys ≡ changed change xs) h.bytes b b' is.0 has.0 in
+    let disk = known (λ disk now. IsWithin now (after disk (change ∷ []))) h.disk d d' is.1 has.1 in
+    record { new = record { bytes = bytes.0; disk = disk.0 }; is = (bytes.1, disk.1); so = (bytes.2, disk.2) }
+known_does Syncs h b b' d d' has is =
+    let disk = known MakesSynced h.disk d d' is.1 has.1 in record { new = record { bytes = h.bytes; disk = disk.0 }; is = (kept h.bytes b b' is.0 has.0, disk.1); so = (refl, disk.2) }
+known_does Replaces h b b' d d' has is = record { new = held h.bytes; is = (kept h.bytes b b' is.0 has.0, has.1 h.disk h.bytes is.1 is.0); so = refl }
 
--- a call that has not begun
-pub meets_before : (effect : Effect) (a : Option (List ℕ)) (disk : Option Disk) (h : Held) → Meets a disk h → LeavesWithin disk (during_effect effect h)
-meets_before effect a disk h meets = meets_during effect a disk disk h (none_made disk (changes_of effect)) meets
+spoilt_now : (h : Held) (d d' : Option Disk) → d ≡ Some h.disk → Spoils d d' [] → (now : Disk) × (d' ≡ Some now) × IsWithin now (spoilt h.disk)
+spoilt_now h d d' is spoils =
+    let now = known (λ disk now. IsWithin now (spoilt (after disk []))) h.disk d d' is spoils in (now.0, now.1, subst (λ (k : Disk). IsWithin now.0 (spoilt k)) (no_more h.disk) now.2)
 
--- bytes that are known, also where the disk is not
-pub known_after : (effect : Effect) (f : List ℕ → Held) (a b c : Option (List ℕ)) (old new : Option Disk) → Has effect b c old new → IfKnown (λ xs ys. ys ≡ (f xs).bytes) a b
-    → IfKnown (λ xs ys. ys ≡ (after_effect effect (f xs)).bytes) a c
-known_after effect f None b c old new has k = tt
-known_after effect f (Some xs) None c old new has k = absurd k
-known_after Nothing f (Some xs) (Some ys) c old new has k = rw has.0 k
-known_after (Changes change) f (Some xs) (Some ys) None old new has k = absurd has.0
-known_after (Changes change) f (Some xs) (Some ys) (Some zs) old new has k = has.0 ∙ ap (changed change) k
-known_after Syncs f (Some xs) (Some ys) None old new has k = absurd has.0
-known_after Syncs f (Some xs) (Some ys) (Some zs) old new has k = has.0 ∙ k
+pub known_leaves : (effect : Effect) (h : Held) (d d' : Option Disk) → Fails effect d d' → d ≡ Some h.disk → LeavesOne (Leaves effect h) d'
+known_leaves Nothing h d d' fails is = record { new = h; is = fails ∙ is; so = refl }
+known_leaves (Changes change) h d d' fails is =
+    let now = known (λ disk now. IsWithin now (spoilt (after disk (change ∷ [])))) h.disk d d' is fails in
+    record { new = record { bytes = h.bytes; disk = now.0 }; is = now.1; so = failed_changes change h (record { bytes = h.bytes; disk = now.0 }) now.2 }
+known_leaves Syncs h d d' fails is =
+    let now = spoilt_now h d d' is fails in record { new = record { bytes = h.bytes; disk = now.0 }; is = now.1; so = failed_syncs h (record { bytes = h.bytes; disk = now.0 }) now.2 }
+known_leaves Replaces h d d' fails is =
+    let now = spoilt_now h d d' is fails in record { new = record { bytes = h.bytes; disk = now.0 }; is = now.1; so = failed_syncs h (record { bytes = h.bytes; disk = now.0 }) now.2 }
 
 -- ---- the writes that are left
 
@@ -179,6 +170,9 @@ next_missed found made rest within is low none = none (get_or found made (0, [])
 pub made_adds : (found : Writes) (made i place : ℕ) (bytes : List ℕ) (old new : Option Disk) → i ≡ made → (place, bytes) ≡ get_or found made (0, []) → Adds old new (Write place bytes ∷ []) → Adds old new (write_of found i ∷ [])
 made_adds found made i place bytes old new is one adds = rw (is, ← one) adds
 
+pub made_spoils : (found : Writes) (made i place : ℕ) (bytes : List ℕ) (old new : Option Disk) → i ≡ made → (place, bytes) ≡ get_or found made (0, []) → Spoils old new (Write place bytes ∷ []) → Spoils old new (write_of found i ∷ [])
+made_spoils found made i place bytes old new is one spoils = rw (is, ← one) spoils
+
 pub made_writes : (found : Writes) (made i place : ℕ) (bytes : List ℕ) (a b : Option (List ℕ)) → i ≡ made → (place, bytes) ≡ get_or found made (0, []) → WritesAt a b place bytes
     → IfKnown (λ xs ys. ys ≡ changed (write_of found i) xs) a b
 made_writes found made i place bytes a b is one writes = rw (is, ← one) writes
@@ -198,40 +192,82 @@ drop_min whole n is =
       | inr more ↦ (let long = more.1 in let here : n ≡ 512 = omega (arith, long) in ap (λ (k : ℕ). drop k whole) here)
     ]
 
+-- how many writes all the steps make
+made_append : (first second : List Step) → made_in (first ++ second) ≡ made_in first + made_in second
+made_append [] second = omega arith
+made_append (step ∷ first) second = one step (made_append first second)
+  where
+    one : (step : Step) → made_in (first ++ second) ≡ made_in first + made_in second → made_in (step ∷ (first ++ second)) ≡ made_in (step ∷ first) + made_in second
+    one WriteBeginning same = same
+    one WriteRest same = same
+    one SyncJournal same = same
+    one ReplaceJournal same = same
+    one (MakeWrite i) same = omega (arith, same)
+    one SyncStorage same = same
+    one EmptyJournal same = same
+    one Done same = same
+
+made_writing : (n : ℕ) → made_in (writing_steps n) ≡ n
+made_writing n = let both = made_append (makes n) ends in let some = made_makes 0 n in omega (arith, both, some)
+
+made_all : (order : Order) (n : ℕ) → made_in (steps_of order n) ≡ n
+made_all Commit n = made_writing n
+made_all Recovery zero = refl
+made_all Recovery (suc n) = made_writing (suc n)
+
+-- known bytes, also where the disk is not known
+pub known_step : (found : Writes) (step : Step) (made : ℕ) (a b c : Option (List ℕ)) (old new : Option Disk) → IsNext step made (length found) → Has (storage_effect found step) b c old new → WritesAll a b (take made found)
+    → WritesAll a c (take (made_with step made) found)
+known_step found step made None b c old new next has all = tt
+known_step found step made (Some xs) None c old new next has all = absurd all
+known_step found WriteBeginning made (Some xs) (Some ys) c old new next has all = rw has.0 all
+known_step found WriteRest made (Some xs) (Some ys) c old new next has all = rw has.0 all
+known_step found SyncJournal made (Some xs) (Some ys) c old new next has all = rw has.0 all
+known_step found ReplaceJournal made (Some xs) (Some ys) c old new next has all = rw has.0 all
+known_step found (MakeWrite i) made (Some xs) (Some ys) None old new next has all = absurd has.0
+known_step found (MakeWrite i) made (Some xs) (Some ys) (Some zs) old new next has all =
+    (rw next.0 at has.0) ∙ ap (changed (write_of found made)) all
+    ∙ sym (ap (λ (l : Writes). after_writes l xs) (take-suc found made (0, []) next.1) ∙ written_more (take made found) (get_or found made (0, [])).0 (get_or found made (0, [])).1 xs)
+known_step found SyncStorage made (Some xs) (Some ys) None old new next has all = absurd has.0
+known_step found SyncStorage made (Some xs) (Some ys) (Some zs) old new next has all = has.0 ∙ all
+known_step found EmptyJournal made (Some xs) (Some ys) c old new next has all = rw has.0 all
+known_step found Done made (Some xs) (Some ys) c old new next has all = rw has.0 all
+
 -- ---- the steps so far
 
 pub record Reached (found : Writes) (whole : List ℕ) (steps : List Step) (rest : List ℕ) (sb sb' jb jb' : Option (List ℕ)) (sd sd' jd jd' : Option Disk) : Type 0 where
   pub left : rest ≡ entries (drop (made_in steps) found)
-  pub known : IfKnown (λ xs ys. ys ≡ (storage_after found steps (held xs)).bytes) sb sb'
-  pub storage : (h : Held) → Meets sb sd h → Meets sb' sd' (storage_after found steps h)
-  pub journal : (h : Held) → Meets jb jd h → Meets jb' jd' (journal_after whole steps h)
+  pub known : WritesAll sb sb' (take (made_in steps) found)
+  pub storage : (h : Held) → Knows h sb sd → KnowsOne (Taken (storage_effect found) steps h) sb' sd'
+  pub journal : (h : Held) → Knows h jb jd → KnowsOne (Taken (journal_effect whole) steps h) jb' jd'
 
 pub reached_first : (found : Writes) (whole rest : List ℕ) (sb jb : Option (List ℕ)) (sd jd : Option Disk) → rest ≡ entries found → Reached found whole [] rest sb sb jb jb sd sd jd jd
-reached_first found whole rest sb jb sd jd is = record { left = is; known = known sb; storage = λ h meets. meets; journal = λ h meets. meets }
-  where
-    known : (sb : Option (List ℕ)) → IfKnown (λ xs ys. ys ≡ xs) sb sb
-    known None = tt
-    known (Some xs) = refl
-
-pub reached_more : (found : Writes) (whole : List ℕ) (all : List Step) (k : ℕ) (step : Step) (rest after : List ℕ) (sb sb' sb'' jb jb' jb'' : Option (List ℕ)) (sd sd' sd'' jd jd' jd'' : Option Disk) → step ≡ step_at all k
-    → Reached found whole (take k all) rest sb sb' jb jb' sd sd' jd jd' → Has (journal_effect whole step) jb' jb'' jd' jd'' → Has (storage_effect found step) sb' sb'' sd' sd''
-    → after ≡ entries (drop (made_with step (made_in (take k all))) found) → Reached found whole (take (suc k) all) after sb sb'' jb jb'' sd sd'' jd jd''
-reached_more found whole all k step rest after sb sb' sb'' jb jb' jb'' sd sd' sd'' jd jd' jd'' is reached journal storage left = record {
-  left = rw (made_more all k, ← is) left;
-  known = cases sb (known_after (storage_effect found step) (λ xs. storage_after found (take k all) (held xs)) sb sb' sb'' sd' sd'' storage reached.known);
-  storage = λ h meets. rw (step_more (storage_effect found) refl all k h, ← is) (meets_after (storage_effect found step) sb' sb'' sd' sd'' (storage_after found (take k all) h) storage (reached.storage h meets));
-  journal = λ h meets. rw (step_more (journal_effect whole) refl all k h, ← is) (meets_after (journal_effect whole step) jb' jb'' jd' jd'' (journal_after whole (take k all) h) journal (reached.journal h meets));
+reached_first found whole rest sb jb sd jd is = record {
+  left = is;
+  known = same sb;
+  storage = λ h knows. record { new = h; is = knows; so = refl };
+  journal = λ h knows. record { new = h; is = knows; so = refl };
 }
   where
-    cases : (sb : Option (List ℕ)) → IfKnown (λ xs ys. ys ≡ (after_effect (storage_effect found step) (storage_after found (take k all) (held xs))).bytes) sb sb''
-        → IfKnown (λ xs ys. ys ≡ (storage_after found (take (suc k) all) (held xs)).bytes) sb sb''
-    cases None q = tt
-    cases (Some xs) q = other sb'' q
-      where
-        other : (b : Option (List ℕ)) → IfKnown (λ xs ys. ys ≡ (after_effect (storage_effect found step) (storage_after found (take k all) (held xs))).bytes) (Some xs) b
-            → IfKnown (λ xs ys. ys ≡ (storage_after found (take (suc k) all) (held xs)).bytes) (Some xs) b
-        other None p = absurd p
-        other (Some ys) p = rw (step_more (storage_effect found) refl all k (held xs), ← is) p
+    same : (sb : Option (List ℕ)) → WritesAll sb sb []
+    same None = tt
+    same (Some xs) = refl
+
+pub reached_more : (found : Writes) (whole : List ℕ) (all : List Step) (k : ℕ) (step : Step) (rest after : List ℕ) (sb sb' sb'' jb jb' jb'' : Option (List ℕ)) (sd sd' sd'' jd jd' jd'' : Option Disk) → step ≡ step_at all k
+    → IsNext step (made_in (take k all)) (length found) → Reached found whole (take k all) rest sb sb' jb jb' sd sd' jd jd' → Has (journal_effect whole step) jb' jb'' jd' jd'' → Has (storage_effect found step) sb' sb'' sd' sd''
+    → after ≡ entries (drop (made_with step (made_in (take k all))) found) → Reached found whole (take (suc k) all) after sb sb'' jb jb'' sd sd'' jd jd''
+reached_more found whole all k step rest after sb sb' sb'' jb jb' jb'' sd sd' sd'' jd jd' jd'' is next reached journal storage left = record {
+  left = rw (made_more all k, ← is) left;
+  known = rw (made_more all k, ← is) (known_step found step (made_in (take k all)) sb sb' sb'' sd' sd'' next storage reached.known);
+  storage = λ h knows. one (storage_effect found) refl h sb' sb'' sd' sd'' storage (reached.storage h knows);
+  journal = λ h knows. one (journal_effect whole) refl h jb' jb'' jd' jd'' journal (reached.journal h knows);
+}
+  where
+    one : (effect : Step → Effect) → effect Done ≡ Nothing → (h : Held) (b b' : Option (List ℕ)) (d d' : Option Disk) → Has (effect step) b b' d d' → KnowsOne (Taken effect (take k all) h) b d
+        → KnowsOne (Taken effect (take (suc k) all) h) b' d'
+    one effect none h b b' d d' has before =
+        let now = known_does (effect step) before.new b b' d d' has before.is in
+        record { new = now.new; is = now.is; so = taken_more effect none all k h before.new now.new before.so (subst (λ (s : Step). Does (effect s) before.new now.new) is now.so) }
 
 -- ---- all the steps
 
@@ -239,10 +275,6 @@ long_steps : (order : Order) (n : ℕ) → length (steps_of order n) ≤ n + 7
 long_steps Commit n = let long = long-makes n in omega (arith, long, length-append (makes n) ends)
 long_steps Recovery zero = omega arith
 long_steps Recovery (suc n) = let long = long-makes (suc n) in omega (arith, long, length-append (makes (suc n)) ends)
-
-storage_bytes : (order : Order) (found : Writes) (xs : List ℕ) → (storage_after found (steps_of order (length found)) (held xs)).bytes ≡ after_writes found xs
-storage_bytes Commit found xs = ap (λ (h : Held). h.bytes) (writing_ends found [] xs).0
-storage_bytes Recovery found xs = ap (λ (h : Held). h.bytes) (recovery_ends found (held xs) (held [])).0
 
 -- ---- the journal that a recovery replaces
 
@@ -292,12 +324,11 @@ reached_all order found whole rest k sb sb' jb jb' sd sd' jd jd' long reached =
 
 pub reached_written : (order : Order) (found : Writes) (whole rest : List ℕ) (sb sb' jb jb' : Option (List ℕ)) (sd sd' jd jd' : Option Disk)
     → Reached found whole (steps_of order (length found)) rest sb sb' jb jb' sd sd' jd jd' → WritesAll sb sb' found
-reached_written order found whole rest sb sb' jb jb' sd sd' jd jd' reached = cases sb sb' reached.known
-  where
-    cases : (a b : Option (List ℕ)) → IfKnown (λ xs ys. ys ≡ (storage_after found (steps_of order (length found)) (held xs)).bytes) a b → WritesAll a b found
-    cases None b k = tt
-    cases (Some xs) None k = absurd k
-    cases (Some xs) (Some ys) k = k ∙ storage_bytes order found xs
+reached_written order found whole rest sb sb' jb jb' sd sd' jd jd' reached =
+    subst (λ (l : Writes). WritesAll sb sb' l) (ap (λ (k : ℕ). take k found) (made_all order (length found)) ∙ take_all (length found) found (omega arith)) reached.known
+
+pub one_disk : (P : Held → Type 0) (b : Option (List ℕ)) (d : Option Disk) → KnowsOne P b d → LeavesOne P d
+one_disk P b d one = record { new = one.new; is = one.is.1; so = one.so }
 
 -- ---- a commit and a recovery
 
@@ -310,22 +341,45 @@ known_redone key context js found a b (inr none) all = none_written a b (rw none
     none_written (Some xs) None k = absurd k
     none_written (Some xs) (Some ys) k = record { whole = λ writes is. absurd (none.1 writes is); other = λ not. k }
 
--- what is certain in the model is certain
-pub meets_exact : (a : Option (List ℕ)) (disk : Option Disk) (h : Held) (xs : List ℕ) → h ≡ held xs → Meets a disk h → disk ≡ Some (certain xs)
-meets_exact a disk h xs is meets = (rw is at meets).exact refl
-
 -- ---- where the steps stop
 
 abbrev pub Stopped : (found : Writes) (whole : List ℕ) (all : List Step) (sb jb : Option (List ℕ)) (sd sd' jd jd' : Option Disk) → Type 0
 Stopped found whole all sb jb sd sd' jd jd' =
-    (k : ℕ) × ((h : Held) → Meets sb sd h → LeavesWithin sd' (storage_during found all k h)) × ((h : Held) → Meets jb jd h → LeavesWithin jd' (journal_during whole all k h))
+    (k : ℕ) × ((h : Held) → Knows h sb sd → LeavesOne (StopsAt (storage_effect found) all k h) sd') × ((h : Held) → Knows h jb jd → LeavesOne (StopsAt (journal_effect whole) all k h) jd')
 
--- step k was begun, on the storage or on the journal, or not yet
-pub reached_stopped : (found : Writes) (whole : List ℕ) (all : List Step) (k : ℕ) (step : Step) (rest : List ℕ) (sb sb' jb jb' : Option (List ℕ)) (sd sd' sd'' jd jd' jd'' : Option Disk) → step ≡ step_at all k
-    → Reached found whole (take k all) rest sb sb' jb jb' sd sd' jd jd' → Adds sd' sd'' (changes_of (storage_effect found step)) → Adds jd' jd'' (changes_of (journal_effect whole step))
-    → Stopped found whole all sb jb sd sd'' jd jd''
-reached_stopped found whole all k step rest sb sb' jb jb' sd sd' sd'' jd jd' jd'' is reached storage journal = (
-  k,
-  λ h meets. meets_during (storage_effect found (step_at all k)) sb' sd' sd'' (storage_after found (take k all) h) (rw is at storage) (reached.storage h meets),
-  λ h meets. meets_during (journal_effect whole (step_at all k)) jb' jd' jd'' (journal_after whole (take k all) h) (rw is at journal) (reached.journal h meets),
-)
+-- step k has not begun
+unbegun : (effect : Step → Effect) (all : List Step) (k : ℕ) (h : Held) (b : Option (List ℕ)) (d : Option Disk) → KnowsOne (Taken effect (take k all) h) b d → LeavesOne (StopsAt effect all k h) d
+unbegun effect all k h b d one = record { new = one.new; is = one.is.1; so = record { between = one.new; taken = one.so; leaves = not_begun (effect (step_at all k)) one.new } }
+
+-- it has failed
+failed : (effect : Step → Effect) (all : List Step) (k : ℕ) (step : Step) (h : Held) (b : Option (List ℕ)) (d d' : Option Disk) → step ≡ step_at all k → KnowsOne (Taken effect (take k all) h) b d → Fails (effect step) d d'
+    → LeavesOne (StopsAt effect all k h) d'
+failed effect all k step h b d d' is one fails =
+    let now = known_leaves (effect step) one.new d d' fails one.is.1 in
+    record { new = now.new; is = now.is; so = record { between = one.new; taken = one.so; leaves = subst (λ (s : Step). Leaves (effect s) one.new now.new) is now.so } }
+
+-- the storage has taken it
+taken : (found : Writes) (all : List Step) (k : ℕ) (step : Step) (h : Held) (b b' : Option (List ℕ)) (d d' : Option Disk) → step ≡ step_at all k → KnowsOne (Taken (storage_effect found) (take k all) h) b d
+    → Has (storage_effect found step) b b' d d' → LeavesOne (StopsAt (storage_effect found) all k h) d'
+taken found all k step h b b' d d' is one has =
+    let now = known_does (storage_effect found step) one.new b b' d d' has one.is in
+    record {
+      new = now.new;
+      is = now.is.1;
+      so = record { between = one.new; taken = one.so; leaves = subst (λ (s : Step). Leaves (storage_effect found s) one.new now.new) is (returned found step one.new now.new now.so) };
+    }
+
+pub stopped_before : (found : Writes) (whole : List ℕ) (all : List Step) (k : ℕ) (rest : List ℕ) (sb sb' jb jb' : Option (List ℕ)) (sd sd' jd jd' : Option Disk) → Reached found whole (take k all) rest sb sb' jb jb' sd sd' jd jd'
+    → Stopped found whole all sb jb sd sd' jd jd'
+stopped_before found whole all k rest sb sb' jb jb' sd sd' jd jd' reached =
+    (k, λ h knows. unbegun (storage_effect found) all k h sb' sd' (reached.storage h knows), λ h knows. unbegun (journal_effect whole) all k h jb' jd' (reached.journal h knows))
+
+pub stopped_in_storage : (found : Writes) (whole : List ℕ) (all : List Step) (k : ℕ) (step : Step) (rest : List ℕ) (sb sb' jb jb' : Option (List ℕ)) (sd sd' sd'' jd jd' : Option Disk) → step ≡ step_at all k
+    → Reached found whole (take k all) rest sb sb' jb jb' sd sd' jd jd' → Fails (storage_effect found step) sd' sd'' → Stopped found whole all sb jb sd sd'' jd jd'
+stopped_in_storage found whole all k step rest sb sb' jb jb' sd sd' sd'' jd jd' is reached fails =
+    (k, λ h knows. failed (storage_effect found) all k step h sb' sd' sd'' is (reached.storage h knows) fails, λ h knows. unbegun (journal_effect whole) all k h jb' jd' (reached.journal h knows))
+
+pub stopped_in_journal : (found : Writes) (whole : List ℕ) (all : List Step) (k : ℕ) (step : Step) (rest : List ℕ) (sb sb' sb'' jb jb' : Option (List ℕ)) (sd sd' sd'' jd jd' jd'' : Option Disk) → step ≡ step_at all k
+    → Reached found whole (take k all) rest sb sb' jb jb' sd sd' jd jd' → Has (storage_effect found step) sb' sb'' sd' sd'' → Fails (journal_effect whole step) jd' jd'' → Stopped found whole all sb jb sd sd'' jd jd''
+stopped_in_journal found whole all k step rest sb sb' sb'' jb jb' sd sd' sd'' jd jd' jd'' is reached has fails =
+    (k, λ h knows. taken found all k step h sb' sb'' sd' sd'' is (reached.storage h knows) has, λ h knows. failed (journal_effect whole) all k step h jb' jd' jd'' is (reached.journal h knows) fails)

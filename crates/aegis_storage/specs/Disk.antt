@@ -33,19 +33,25 @@ after_writes writes xs = applied (changes writes) xs
 abbrev pub WritesAll : Option (List ℕ) → Option (List ℕ) → Writes → Type 0
 WritesAll old new writes = IfKnown (λ xs ys. ys ≡ after_writes writes xs) old new
 
--- What a sync has made certain, and the changes since then, the first of them first. A change whose call returned an
--- error may be among them.
+-- What a sync has made certain; the changes that calls which failed have lost, in a layer for each such call; and the
+-- changes since, the first of them first. Linux forgets a change that a sync could not make, and reports no error again:
+-- the change can still be read, and no later sync makes it certain.
 pub record Disk : Type 0 where
   pub synced : List ℕ
+  pub lost : List (List Change)
   pub pending : List Change
 
 -- everything is certain
 abbrev pub certain : List ℕ → Disk
-certain xs = record { synced = xs; pending = [] }
+certain xs = record { synced = xs; lost = []; pending = [] }
 
 -- the disk after more changes, which are pending, too
 abbrev pub after : Disk → List Change → Disk
-after disk more = record { synced = disk.synced; pending = disk.pending ++ more }
+after disk more = record { synced = disk.synced; lost = disk.lost; pending = disk.pending ++ more }
+
+-- the disk after a call that failed: what was pending may be lost
+abbrev pub spoilt : Disk → Disk
+spoilt disk = record { synced = disk.synced; lost = disk.lost ++ disk.pending ∷ []; pending = [] }
 
 -- ---- crashes
 
@@ -66,13 +72,24 @@ abbrev pub AreParts : List Change → List Change → Type 0
 AreParts changes [] = ⊤
 AreParts changes (part ∷ parts) = IsPartOfOne changes part × AreParts changes parts
 
--- What a crash may leave: the synced bytes after what may be left of the pending changes, in any order. So where a
--- pending write was to write there may be any bytes: its own, those of before, or others; a pending size is there or
--- not; and bytes that nothing was to write are as they were synced, or 0 past the end.
+-- What may be left of the layers of lost changes, each after those before it, turns the first bytes into the second.
+abbrev pub AreLeftOf : List (List Change) → (before bytes : List ℕ) → Type 0
+AreLeftOf [] before bytes = bytes ≡ before
+AreLeftOf (layer ∷ layers) before bytes = (parts : List Change) × AreParts layer parts × AreLeftOf layers (applied parts before) bytes
+
+-- What a crash may leave: the synced bytes, after what may be left of the lost changes, and then what may be left of the
+-- pending ones, in any order. So where a pending write was to write there may be any bytes: its own, those of before, or
+-- others; a pending size is there or not; and bytes that nothing was to write are as they were synced, or 0 past the end.
 pub record Crashed (disk : Disk) (bytes : List ℕ) : Type 0 where
+  pub base : List ℕ
+  pub of_lost : AreLeftOf disk.lost disk.synced base
   pub parts : List Change
   pub of_pending : AreParts disk.pending parts
-  pub are : bytes ≡ applied parts disk.synced
+  pub are : bytes ≡ applied parts base
+
+-- Whatever is left of the lost changes, the pending ones give these bytes. So a sync makes the bytes certain.
+abbrev pub SettlesTo : Disk → List ℕ → Type 0
+SettlesTo disk bytes = (base : List ℕ) → AreLeftOf disk.lost disk.synced base → applied disk.pending base ≡ bytes
 
 -- The disk is known, and P holds of whatever a crash now leaves of it.
 pub record CrashLeaves (P : List ℕ → Type 0) (state : Option Disk) : Type 0 where
@@ -82,14 +99,28 @@ pub record CrashLeaves (P : List ℕ → Type 0) (state : Option Disk) : Type 0 
 
 -- ---- what calls do to a disk that is known
 
--- Whatever a crash may leave of the first, also after the same further changes, it may leave of the second.
+-- Whatever a crash may leave of the first, also after the same further changes, it may leave of the second; and a sync
+-- makes certain of the first whatever it makes certain of the second.
 pub record IsWithin (now disk : Disk) : Type 0 where
   pub also : (more : List Change) (bytes : List ℕ) → Crashed (after now more) bytes → Crashed (after disk more) bytes
+  pub settles : (more : List Change) (bytes : List ℕ) → SettlesTo (after disk more) bytes → SettlesTo (after now more) bytes
 
--- A crash may leave no more than if these changes were pending, too. So some of them may be certain already, as in a
--- vector, and some, or all, not made, as after an error.
+-- After `Ok` these changes are pending, too. Some of them may be certain already, as in a vector.
 abbrev pub Adds : Option Disk → Option Disk → List Change → Type 0
 Adds old new more = IfKnown (λ disk now. IsWithin now (after disk more)) old new
+
+-- After an error all that was pending may be lost, with these changes.
+abbrev pub Spoils : Option Disk → Option Disk → List Change → Type 0
+Spoils old new more = IfKnown (λ disk now. IsWithin now (spoilt (after disk more))) old new
+
+-- After a sync with `Ok` the bytes are certain to which the disk settles. If it settles to none, what was pending may be
+-- lost: that is less than Linux promises.
+pub record MakesSynced (old new : Disk) : Type 0 where
+  pub certainly : (bytes : List ℕ) → SettlesTo old bytes → new ≡ certain bytes
+  pub otherwise : IsWithin new (spoilt old)
+
+abbrev pub IsSynced : Option Disk → Option Disk → Type 0
+IsSynced old new = IfKnown MakesSynced old new
 
 -- what can be read is certain
 abbrev pub MakesCertain : Option (List ℕ) → Option Disk → Option Disk → Type 0

@@ -5,7 +5,7 @@ use Rattle.std.specs.List.{AllByRecursion, flat_map}
 use Rattle.aegis_base.specs.Mac.{mac}
 use Rattle.aegis_base.specs.Variant.{Aegis128L}
 use Rattle.aegis_storage.specs.Bytes.{IfKnown}
-use Rattle.aegis_storage.specs.Disk.{CrashLeaves, Crashed, Disk, Writes, certain, after_writes}
+use Rattle.aegis_storage.specs.Disk.{CrashLeaves, Crashed, Disk, IsWithin, Writes, certain, after_writes}
 
 -- the last byte of a storage lies below this place, as in a file of Linux
 abbrev pub max_storage_bytes : ℕ
@@ -76,8 +76,13 @@ GivesOneOf key context a b journal old = Gives key context journal old (IsOneOf 
 abbrev pub IsNoForgery : (key context : List ℕ) → Writes → List ℕ → Type 0
 IsNoForgery key context writes bytes = (found : Writes) → IsJournal key context found bytes → found ≡ writes
 
+-- What the storage holds is certain, or the journal is certain, and is that of these writes.
+abbrev pub IsSafe : (key context : List ℕ) → Writes → (storage journal : Disk) → Type 0
+IsSafe key context writes storage journal =
+    ((bytes : List ℕ) × IsWithin storage (certain bytes)) ⊎ ((bytes : List ℕ) × IsJournal key context writes bytes × IsWithin journal (certain bytes))
+
 -- Whatever a crash now leaves of the storage and of the journal, unless it leaves a forgery, recovery gives xs, or xs
--- with all the writes over it.
+-- with all the writes over it. Without a crash it does so too, whichever syncs have failed, since one of the two is certain.
 pub record RecoversUnlessForged (key context xs : List ℕ) (writes : Writes) (storage journal : Option Disk) : Type 0 where
   pub storage_disk : Disk
   pub journal_disk : Disk
@@ -85,6 +90,7 @@ pub record RecoversUnlessForged (key context xs : List ℕ) (writes : Writes) (s
   pub journal_is : journal ≡ Some journal_disk
   pub gives : (ys js : List ℕ) → Crashed storage_disk ys → Crashed journal_disk js → IsNoForgery key context writes js
       → GivesOneOf key context xs (after_writes writes xs) js ys
+  pub safe : IsSafe key context writes storage_disk journal_disk
 
 -- the bytes are at most 512, as many as the beginning of a journal, or begin with this beginning
 abbrev pub HasBeginning : (beginning bytes : List ℕ) → Type 0

@@ -3,8 +3,8 @@ use Rattle.std.specs.Prelude.{◌≡◌, ℕ, zero, suc, ◌<◌, ⊤, ◌⊎◌
 use Rattle.std.specs.Io.KnownBytes.{Keeps}
 use Rattle.std.specs.List.{range_with_len}
 use Rattle.aegis_storage.specs.Bytes.{IfKnown}
-use Rattle.aegis_storage.specs.Disk.{Adds, Change, CrashLeaves, Crashed, Disk, MakesCertain, Size, Write, Writes, after, certain, changed}
-use Rattle.aegis_storage.specs.Journal.{IsJournal}
+use Rattle.aegis_storage.specs.Disk.{Adds, Change, Crashed, Disk, IsSynced, IsWithin, MakesCertain, MakesSynced, Size, Spoils, Write, Writes, after, certain, changed}
+use Rattle.aegis_storage.specs.Journal.{IsJournal, IsNoForgery, RecoversUnlessForged}
 use Rattle.aegis_storage.specs.declared.steps.Order.{Order}
 use Rattle.aegis_storage.specs.declared.steps.Order.TheVariants.{Commit, Recovery}
 use Rattle.aegis_storage.specs.declared.steps.Step.{Step}
@@ -35,18 +35,19 @@ step_at steps number = get_or steps number Done
 
 -- ---- what the steps do
 
--- what a step does to a storage: nothing, or it makes a change, or it makes certain what can be read
+-- what a step does to a storage: nothing, or it makes a change, or it syncs, or it replaces what there is by a synced copy
 pub data Effect : Type 0 where
   Nothing : Effect
   Changes : Change → Effect
   Syncs : Effect
+  Replaces : Effect
 
 -- to the journal, which is to have these bytes
 abbrev pub journal_effect : (journal : List ℕ) → Step → Effect
 journal_effect journal WriteBeginning = Changes (Write 0 (take 512 journal))
 journal_effect journal WriteRest = Changes (Write 512 (drop 512 journal))
 journal_effect journal SyncJournal = Syncs
-journal_effect journal ReplaceJournal = Syncs
+journal_effect journal ReplaceJournal = Replaces
 journal_effect journal (MakeWrite number) = Nothing
 journal_effect journal SyncStorage = Nothing
 journal_effect journal EmptyJournal = Changes (Size 0)
@@ -76,64 +77,84 @@ pub record Held : Type 0 where
 abbrev pub held : List ℕ → Held
 held xs = record { bytes = xs; disk = certain xs }
 
--- After a call that returned without an error. A change is pending until a sync.
-abbrev pub after_effect : Effect → Held → Held
-after_effect Nothing h = h
-after_effect (Changes change) h = record { bytes = changed change h.bytes; disk = after h.disk (change ∷ []) }
-after_effect Syncs h = held h.bytes
+-- A call that has the effect has returned without an error.
+abbrev pub Does : Effect → (old new : Held) → Type 0
+Does Nothing old new = new ≡ old
+Does (Changes change) old new = (new.bytes ≡ changed change old.bytes) × IsWithin new.disk (after old.disk (change ∷ []))
+Does Syncs old new = (new.bytes ≡ old.bytes) × MakesSynced old.disk new.disk
+Does Replaces old new = new ≡ held old.bytes
 
--- While a call is under way, and after it has failed: a crash may leave any part of its change.
-abbrev pub during_effect : Effect → Held → Held
-during_effect Nothing h = h
-during_effect (Changes change) h = after_effect (Changes change) h
-during_effect Syncs h = h
+-- A crash leaves no more of the first disk than of the second.
+abbrev pub LeavesNoMore : (now disk : Disk) → Type 0
+LeavesNoMore now disk = (bytes : List ℕ) → Crashed now bytes → Crashed disk bytes
 
-abbrev pub after_effects : List Effect → Held → Held
-after_effects [] h = h
-after_effects (effect ∷ effects) h = after_effects effects (after_effect effect h)
+-- Bytes that are certain stay so.
+abbrev pub StaysCertain : (old new : Disk) → Type 0
+StaysCertain old new = (bytes : List ℕ) → IsWithin old (certain bytes) → IsWithin new (certain bytes)
 
--- the journal and the storage after steps
-abbrev pub journal_after : (journal : List ℕ) → List Step → Held → Held
-journal_after journal steps h = after_effects (map (journal_effect journal) steps) h
+-- The call has not begun, is under way, or has failed. A crash may leave any part of its change, and a sync that fails
+-- may lose what was pending.
+abbrev pub Leaves : Effect → (old new : Held) → Type 0
+Leaves Nothing old new = new ≡ old
+Leaves (Changes change) old new = LeavesNoMore new.disk (after old.disk (change ∷ []))
+Leaves Syncs old new = LeavesNoMore new.disk old.disk × StaysCertain old.disk new.disk
+Leaves Replaces old new = LeavesNoMore new.disk old.disk × StaysCertain old.disk new.disk
 
-abbrev pub storage_after : Writes → List Step → Held → Held
-storage_after writes steps h = after_effects (map (storage_effect writes) steps) h
+-- the first of some calls has returned without an error, and the others too
+pub record TakenFirst (first : Effect) (others : Held → Type 0) (old : Held) : Type 0 where
+  pub between : Held
+  pub does : Does first old between
+  pub more : others between
 
--- while step k is under way, after those before it
-abbrev pub journal_during : (journal : List ℕ) → List Step → (k : ℕ) → Held → Held
-journal_during journal steps k h = during_effect (journal_effect journal (step_at steps k)) (journal_after journal (take k steps) h)
+-- the calls of these steps have returned without an error, one after the other
+abbrev pub Taken : (Step → Effect) → List Step → (old new : Held) → Type 0
+Taken effect [] old new = new ≡ old
+Taken effect (step ∷ steps) old new = TakenFirst (effect step) (λ h. Taken effect steps h new) old
 
-abbrev pub storage_during : Writes → List Step → (k : ℕ) → Held → Held
-storage_during writes steps k h = during_effect (storage_effect writes (step_at steps k)) (storage_after writes (take k steps) h)
+-- those of the first k steps have, and step k has not begun, is under way, or has failed
+pub record StopsAt (effect : Step → Effect) (steps : List Step) (k : ℕ) (old new : Held) : Type 0 where
+  pub between : Held
+  pub taken : Taken effect (take k steps) old between
+  pub leaves : Leaves (effect (step_at steps k)) between new
 
 -- the writes that recovery makes again: those of a whole journal, and none for any other
 abbrev pub AreRedone : (key context journal : List ℕ) → Writes → Type 0
 AreRedone key context journal writes =
     IsJournal key context writes journal ⊎ ((writes ≡ []) × ((found : Writes) → IsJournal key context found journal → ⊥))
 
--- ---- storages that meet the model
+-- What a recovery begins with, and the writes that it finds. What can be read is one of the contents that a crash may leave.
+pub record Recoverable (key context xs : List ℕ) (writes found : Writes) (s j : Held) : Type 0 where
+  pub storage : Crashed s.disk s.bytes
+  pub journal : Crashed j.disk j.bytes
+  pub recovers : RecoversUnlessForged key context xs writes (Some s.disk) (Some j.disk)
+  pub no_forgery : IsNoForgery key context writes j.bytes
+  pub redone : AreRedone key context j.bytes found
+
+-- ---- storages whose bytes and whose disks may be known
 
 -- what a call that has the effect does if it returns without an error
 abbrev pub Has : Effect → (bytes bytes' : Option (List ℕ)) → (disk disk' : Option Disk) → Type 0
 Has Nothing bytes bytes' disk disk' = (bytes' ≡ bytes) × (disk' ≡ disk)
 Has (Changes change) bytes bytes' disk disk' = IfKnown (λ xs ys. ys ≡ changed change xs) bytes bytes' × Adds disk disk' (change ∷ [])
-Has Syncs bytes bytes' disk disk' = Keeps bytes bytes' × MakesCertain bytes disk disk'
+Has Syncs bytes bytes' disk disk' = Keeps bytes bytes' × IsSynced disk disk'
+Has Replaces bytes bytes' disk disk' = Keeps bytes bytes' × MakesCertain bytes disk disk'
 
--- the changes that are pending once it was called
-abbrev pub changes_of : Effect → List Change
-changes_of Nothing = []
-changes_of (Changes change) = change ∷ []
-changes_of Syncs = []
+-- and if it returns an error
+abbrev pub Fails : Effect → (disk disk' : Option Disk) → Type 0
+Fails Nothing disk disk' = disk' ≡ disk
+Fails (Changes change) disk disk' = Spoils disk disk' (change ∷ [])
+Fails Syncs disk disk' = Spoils disk disk' []
+Fails Replaces disk disk' = Spoils disk disk' []
 
--- The storage can be read as the model says, and a crash may leave no more than of the model's.
-pub record Meets (bytes : Option (List ℕ)) (disk : Option Disk) (h : Held) : Type 0 where
-  pub read : bytes ≡ Some h.bytes
-  pub within : Adds (Some h.disk) disk []
-  pub exact : h.disk.pending ≡ [] → disk ≡ Some h.disk
+-- the bytes and the disk are known
+abbrev pub Knows : Held → (bytes : Option (List ℕ)) → (disk : Option Disk) → Type 0
+Knows h bytes disk = (bytes ≡ Some h.bytes) × (disk ≡ Some h.disk)
 
--- a crash may leave no more than of the model's
-abbrev pub LeavesWithin : Option Disk → Held → Type 0
-LeavesWithin disk h = CrashLeaves (Crashed h.disk) disk
+-- the disk is known, and is that of something of which P holds
+pub record LeavesOne (P : Held → Type 0) (disk : Option Disk) : Type 0 where
+  pub new : Held
+  pub is : disk ≡ Some new.disk
+  pub so : P new
 
 -- ---- the writes that are left
 

@@ -1,9 +1,9 @@
 //! Taking the steps of a commit or of a recovery.
 
-ghost use Rattle.std.specs.Prelude.{◌≡◌, ◌≤◌, drop, IfOk, IfSome, List, OnOk, length, ℕ};
-ghost use Rattle.aegis_storage.specs.Disk.{Adds, Writes, WritesAll};
+ghost use Rattle.std.specs.Prelude.{◌≡◌, ◌≤◌, drop, IfOk, IfSome, List, OnErr, OnOk, length, ℕ};
+ghost use Rattle.aegis_storage.specs.Disk.{Writes, WritesAll};
 ghost use Rattle.aegis_storage.specs.Journal.{AreWithin, entries};
-ghost use Rattle.aegis_storage.specs.Steps.{Has, Held, IsNext, LeavesWithin, Meets, changes_of, journal_after, journal_during, journal_effect, made_with, steps_of, storage_after, storage_during, storage_effect};
+ghost use Rattle.aegis_storage.specs.Steps.{Fails, Has, Held, IsNext, Knows, LeavesOne, StopsAt, Taken, journal_effect, made_with, steps_of, storage_effect};
 
 use crate::journal::{BEGINNING_BYTES, first_write};
 use crate::steps::{Order, Step, step_of};
@@ -34,8 +34,8 @@ fn count_writes(content: &[u8]) -> u64
 // Takes a step on a journal, which has these bytes, or is to have them.
 fn journal_step<J: Storage>(step: Step, journal: &mut J, whole: &[u8]) -> io::Result<()>
     requires { step ≡ Step.ReplaceJournal → IfSome (J.bytes journal.old) (λ xs. whole.now ≡ xs) }
-    ensures begun { Adds (J.disk journal.old) (J.disk journal.new)
-        (changes_of (journal_effect whole.now step)) }
+    ensures failed { OnErr result
+        (Fails (journal_effect whole.now step) (J.disk journal.old) (J.disk journal.new)) }
     ensures taken { OnOk result (Has (journal_effect whole.now step) (J.bytes journal.old)
         (J.bytes journal.new) (J.disk journal.old) (J.disk journal.new)) }
 {
@@ -54,9 +54,9 @@ fn journal_step<J: Storage>(step: Step, journal: &mut J, whole: &[u8]) -> io::Re
 
 // Takes a step on a storage, and returns what is left of the content of the journal, which has the next write first.
 fn storage_step<'a, S: Storage>(step: Step, storage: &mut S, rest: &'a [u8]) -> io::Result<&'a [u8]>
-    ensures begun { (found : Writes) (made : ℕ) → AreWithin found
+    ensures failed { OnErr result ((found : Writes) (made : ℕ) → AreWithin found
         → rest.now ≡ entries (drop made found) → IsNext step made (length found)
-        → Adds (S.disk storage.old) (S.disk storage.new) (changes_of (storage_effect found step)) }
+        → Fails (storage_effect found step) (S.disk storage.old) (S.disk storage.new)) }
     ensures taken { OnOk result ((found : Writes) (made : ℕ) → AreWithin found
         → rest.now ≡ entries (drop made found) → IsNext step made (length found)
         → Has (storage_effect found step) (S.bytes storage.old) (S.bytes storage.new)
@@ -97,29 +97,26 @@ pub fn take_steps<S: Storage, J: Storage>(
 ) -> io::Result<()>
     requires { order ≡ Order.Recovery → IfSome (J.bytes journal.old) (λ xs. whole.now ≡ xs) }
     ensures stopped { (found : Writes) → AreWithin found → content.now ≡ entries found → (k : ℕ)
-        × ((h : Held) → Meets (S.bytes storage.old) (S.disk storage.old) h
-        → LeavesWithin (S.disk storage.new)
-        (storage_during found (steps_of order (length found)) k h))
-        × ((h : Held) → Meets (J.bytes journal.old) (J.disk journal.old) h
-        → LeavesWithin (J.disk journal.new)
-        (journal_during whole.now (steps_of order (length found)) k h)) }
+        × ((h : Held) → Knows h (S.bytes storage.old) (S.disk storage.old) → LeavesOne
+        (StopsAt (storage_effect found) (steps_of order (length found)) k h) (S.disk storage.new))
+        × ((h : Held) → Knows h (J.bytes journal.old) (J.disk journal.old) → LeavesOne
+        (StopsAt (journal_effect whole.now) (steps_of order (length found)) k h)
+        (J.disk journal.new)) }
     ensures written { OnOk result ((found : Writes) → AreWithin found → content.now ≡ entries found
         → WritesAll (S.bytes storage.old) (S.bytes storage.new) found) }
     ensures storage { OnOk result ((found : Writes) → AreWithin found → content.now ≡ entries found
-        → (h : Held) → Meets (S.bytes storage.old) (S.disk storage.old) h
-        → Meets (S.bytes storage.new) (S.disk storage.new)
-        (storage_after found (steps_of order (length found)) h)) }
+        → (h : Held) → Knows h (S.bytes storage.old) (S.disk storage.old) → LeavesOne
+        (Taken (storage_effect found) (steps_of order (length found)) h) (S.disk storage.new)) }
     ensures journal { OnOk result ((found : Writes) → AreWithin found → content.now ≡ entries found
-        → (h : Held) → Meets (J.bytes journal.old) (J.disk journal.old) h
-        → Meets (J.bytes journal.new) (J.disk journal.new)
-        (journal_after whole.now (steps_of order (length found)) h)) }
+        → (h : Held) → Knows h (J.bytes journal.old) (J.disk journal.old) → LeavesOne
+        (Taken (journal_effect whole.now) (steps_of order (length found)) h) (J.disk journal.new)) }
 {
     let writes = count_writes(content);
     let mut rest = content;
     'steps: for number in 0..writes + OTHER_STEPS {
         let step = step_of(order, number, writes);
-        journal_step(step, journal, whole)?;
         rest = storage_step(step, storage, rest)?;
+        journal_step(step, journal, whole)?;
     }
     Ok(())
 }

@@ -3,8 +3,8 @@
 
 ghost use Rattle.std.specs.Prelude.{◌≡◌, [], List, Option, Some, length, take, ℕ};
 ghost use Rattle.aegis_storage.specs.Disk.{AreParts, Change, Crashed, Disk, Writes, applied, certain, changes, after_writes};
-ghost use Rattle.aegis_storage.specs.Journal.{IsAtRest, IsJournal, IsNoForgery, KeepsBeginning, RecoversUnlessForged, RestsAtEither};
-ghost use Rattle.aegis_storage.specs.Steps.{AreRedone, Held, commit_steps, held, journal_after, journal_during, recovery_steps, storage_after, storage_during};
+ghost use Rattle.aegis_storage.specs.Journal.{IsAtRest, IsJournal, KeepsBeginning, RecoversUnlessForged, RestsAtEither};
+ghost use Rattle.aegis_storage.specs.Steps.{Held, Recoverable, StopsAt, Taken, commit_steps, held, journal_effect, recovery_steps, storage_effect};
 
 /// After any parts of writes, in any order, all of the writes give what they give without these.
 #[tactic(auto, using(crate::proofs::Disks::written_again))]
@@ -45,55 +45,48 @@ pub fn recovers_after_a_crash()
         → RecoversUnlessForged key context xs writes (Some (certain ys)) (Some (certain js)) }
 {}
 
-/// While any step of a commit is under way, or has failed, after the steps before it: recovery gives what the storage
-/// held before the commit, or all of its writes over it. A change is pending from the beginning of its step on, so a
-/// crash may leave any part of it. At the number past the last one the commit is over.
+/// Wherever the steps of a commit stop, because the program or the system does or because a call fails: recovery gives
+/// what the storage held before the commit, or all of its writes over it. A sync that fails may lose what was pending.
 pub fn commit_recovers_at_any_step()
-    ensures { (key context journal xs : List ℕ) (writes : Writes) (k : ℕ)
+    ensures { (key context journal xs : List ℕ) (writes : Writes) (k : ℕ) (s j : Held)
         → IsJournal key context writes journal
-        → RecoversUnlessForged key context xs writes
-        (Some (storage_during writes (commit_steps (length writes)) k (held xs)).disk)
-        (Some (journal_during journal (commit_steps (length writes)) k (held [])).disk) }
+        → StopsAt (storage_effect writes) (commit_steps (length writes)) k (held xs) s
+        → StopsAt (journal_effect journal) (commit_steps (length writes)) k (held []) j
+        → RecoversUnlessForged key context xs writes (Some s.disk) (Some j.disk) }
 {}
 
 /// After all steps of a commit the storage has the writes, and is at rest with an empty journal.
 pub fn commit_ends_at_rest()
-    ensures { (key context journal xs : List ℕ) (writes : Writes)
+    ensures { (key context journal xs : List ℕ) (writes : Writes) (s j : Held)
         → IsJournal key context writes journal
-        → IsAtRest (Some (storage_after writes (commit_steps (length writes)) (held xs)).disk)
-        (Some (journal_after journal (commit_steps (length writes)) (held [])).disk)
-        (after_writes writes xs) }
+        → Taken (storage_effect writes) (commit_steps (length writes)) (held xs) s
+        → Taken (journal_effect journal) (commit_steps (length writes)) (held []) j
+        → IsAtRest (Some s.disk) (Some j.disk) (after_writes writes xs) }
 {}
 
-/// While any step of a commit is under way, a journal of more than 512 bytes begins with its beginning.
+/// Wherever the steps of a commit stop, a journal of more than 512 bytes begins with its beginning.
 pub fn commit_keeps_the_beginning()
-    ensures { (key context journal : List ℕ) (writes : Writes) (k : ℕ)
+    ensures { (key context journal : List ℕ) (writes : Writes) (k : ℕ) (j : Held)
         → IsJournal key context writes journal
-        → KeepsBeginning (take 512 journal)
-        (Some (journal_during journal (commit_steps (length writes)) k (held [])).disk) }
+        → StopsAt (journal_effect journal) (commit_steps (length writes)) k (held []) j
+        → KeepsBeginning (take 512 journal) (Some j.disk) }
 {}
 
-/// What recovers before a recovery does so while any of its steps is under way: `storage` and `journal` are what can be
-/// read and what a crash may leave as it begins, and `found` are the writes that it finds.
+/// What recovers before a recovery does so wherever its steps stop: `s` and `j` are what can be read of the storage and
+/// of the journal and what a crash may leave of them as it begins, and `found` are the writes that it finds.
 pub fn recovery_recovers_at_any_step()
-    ensures { (key context xs : List ℕ) (writes found : Writes) (storage journal : Held) (k : ℕ)
-        → Crashed storage.disk storage.bytes → Crashed journal.disk journal.bytes
-        → RecoversUnlessForged key context xs writes (Some storage.disk) (Some journal.disk)
-        → IsNoForgery key context writes journal.bytes
-        → AreRedone key context journal.bytes found
-        → RecoversUnlessForged key context xs writes
-        (Some (storage_during found (recovery_steps (length found)) k storage).disk)
-        (Some (journal_during journal.bytes (recovery_steps (length found)) k journal).disk) }
+    ensures { (key context xs : List ℕ) (writes found : Writes) (s j s' j' : Held) (k : ℕ)
+        → Recoverable key context xs writes found s j
+        → StopsAt (storage_effect found) (recovery_steps (length found)) k s s'
+        → StopsAt (journal_effect j.bytes) (recovery_steps (length found)) k j j'
+        → RecoversUnlessForged key context xs writes (Some s'.disk) (Some j'.disk) }
 {}
 
 /// After all steps of a recovery the storage has all the writes of the commit or none, and is at rest.
 pub fn recovery_ends_at_rest()
-    ensures { (key context xs : List ℕ) (writes found : Writes) (storage journal : Held)
-        → Crashed storage.disk storage.bytes → Crashed journal.disk journal.bytes
-        → RecoversUnlessForged key context xs writes (Some storage.disk) (Some journal.disk)
-        → IsNoForgery key context writes journal.bytes
-        → AreRedone key context journal.bytes found
-        → RestsAtEither (Some (storage_after found (recovery_steps (length found)) storage).disk)
-        (Some (journal_after journal.bytes (recovery_steps (length found)) journal).disk)
-        xs writes }
+    ensures { (key context xs : List ℕ) (writes found : Writes) (s j s' j' : Held)
+        → Recoverable key context xs writes found s j
+        → Taken (storage_effect found) (recovery_steps (length found)) s s'
+        → Taken (journal_effect j.bytes) (recovery_steps (length found)) j j'
+        → RestsAtEither (Some s'.disk) (Some j'.disk) xs writes }
 {}

@@ -4,7 +4,7 @@ ghost use Rattle.std.specs.Prelude.{◌≡◌, ◌+◌, ◌≤◌, ◌∷◌, []
 ghost use Rattle.std.proofs.Common.{refl};
 ghost use Rattle.std.specs.Io.KnownBytes.{Keeps};
 ghost use Rattle.aegis_storage.specs.Bytes.{ResizesTo, TearsAt, WritesAt, part_at};
-ghost use Rattle.aegis_storage.specs.Disk.{Adds, Disk, IsPossible, MakesCertain, Size, Write, certain};
+ghost use Rattle.aegis_storage.specs.Disk.{Adds, Disk, IsPossible, IsSynced, MakesCertain, Size, Spoils, Write, certain};
 
 use crate::bytes::put;
 use std::alloc::Allocator;
@@ -44,21 +44,25 @@ pub trait Storage {
 
     /// Writes all of `part` over the bytes from `at` on. What lies past the end is added, and a gap is filled with
     /// zeros. After an error the bytes from `at` on may be any, as many as `part` has at most, and the others are as
-    /// they were. Until a sync, a crash may leave any parts of the write, also after an error.
+    /// they were. Until a sync, a crash may leave any parts of the write. After an error it may leave them for ever, and
+    /// so it may any part of what was not synced yet.
     fn write_at(&mut self, at: u64, part: &[u8]) -> io::Result<()>
         requires { at + length part.now ≤ MAX_STORAGE_BYTES }
         ensures written { OnOk result (WritesAt (bytes self.old) (bytes self.new) at part.now) }
         ensures torn { OnErr result
             (TearsAt (bytes self.old) (bytes self.new) at (length part.now)) }
-        ensures pending { Adds (disk self.old) (disk self.new) (Write at part.now ∷ []) };
+        ensures pending { OnOk result (Adds (disk self.old) (disk self.new) (Write at part.now ∷ [])) }
+        ensures spoilt { OnErr result
+            (Spoils (disk self.old) (disk self.new) (Write at part.now ∷ [])) };
 
     /// Cuts the bytes off at `size`, or fills them up to it with zeros. After an error they are as they were. Until a
-    /// sync, a crash may leave the one size or the other, also after an error.
+    /// sync, a crash may leave the one size or the other, and after an error for ever.
     fn set_size(&mut self, size: u64) -> io::Result<()>
         requires { size ≤ MAX_STORAGE_BYTES }
         ensures resized { OnOk result (ResizesTo (bytes self.old) (bytes self.new) size) }
         ensures kept { OnErr result (Keeps (bytes self.old) (bytes self.new)) }
-        ensures pending { Adds (disk self.old) (disk self.new) (Size size ∷ []) };
+        ensures pending { OnOk result (Adds (disk self.old) (disk self.new) (Size size ∷ [])) }
+        ensures spoilt { OnErr result (Spoils (disk self.old) (disk self.new) (Size size ∷ [])) };
 
     /// Replaces what the storage holds by a copy of it that is synced: for a file, the copy is written under another
     /// name, synced, and renamed over the old one, and then the folder is synced. So all of it is certain with `Ok`,
@@ -70,15 +74,15 @@ pub trait Storage {
         ensures kept { Keeps (bytes self.old) (bytes self.new) }
         ensures certain { OnOk result
             (MakesCertain (bytes self.old) (disk self.old) (disk self.new)) }
-        ensures pending { Adds (disk self.old) (disk self.new) [] };
+        ensures spoilt { OnErr result (Spoils (disk self.old) (disk self.new) []) };
 
-    /// Returns once a crash leaves all that was written. For a file the system must ensure that; a vector's contract
-    /// speaks of the model alone. After an error nothing more is certain.
+    /// Returns once a crash leaves all that was written since the last call that failed. For a file the system must
+    /// ensure that; a vector's contract speaks of the model alone. After an error what was written may be lost for ever,
+    /// although it can be read: no later sync makes it certain, unless it is written again, or replaced.
     fn sync(&mut self) -> io::Result<()>
         ensures kept { Keeps (bytes self.old) (bytes self.new) }
-        ensures certain { OnOk result
-            (MakesCertain (bytes self.old) (disk self.old) (disk self.new)) }
-        ensures pending { Adds (disk self.old) (disk self.new) [] };
+        ensures synced { OnOk result (IsSynced (disk self.old) (disk self.new)) }
+        ensures spoilt { OnErr result (Spoils (disk self.old) (disk self.new) []) };
 
     /// What can be read is one of the contents that a crash may leave.
     ghost possible: { (storage : Self) → IsPossible (bytes storage) (disk storage) };
@@ -89,7 +93,7 @@ impl<A: Allocator> Storage for Vec<u8, A> {
 
     ghost disk = { λ v. Some (certain v.items) };
 
-    ghost possible = { λ v. record { parts = []; of_pending = tt; are = refl } };
+    ghost possible = { λ v. record { base = v.items; of_lost = refl; parts = []; of_pending = tt; are = refl } };
 
     fn size(&self) -> io::Result<u64> {
         Ok(self.as_slice().len() as u64)

@@ -36,6 +36,6 @@ returns-clause-at_rest g c =
     let is : c.writes_part-content.result.now ≡ entries (writes_of c.args.writes.now) = c.writes_part-content.ensures _ _ _ part.framed in
     on_ok_both c.take_steps.result
     (λ storage journal xs rest.
-    commit_ended c.args.key.now c.args.context.now xs c.deref-2.result.now (writes_of c.args.writes.now) _ _ _ _ _ _ _ _ (g.met.S.Storage.possible c.args.storage.now) (g.met.J.Storage.possible c.args.journal.now) whole
+    commit_ended c.args.key.now c.args.context.now xs c.deref-2.result.now (writes_of c.args.writes.now) _ _ _ _ _ _ (g.met.S.Storage.possible c.args.storage.now) (g.met.J.Storage.possible c.args.journal.now) whole
     (storage (writes_of c.args.writes.now) (all_within c.args.writes.now) is) (journal (writes_of c.args.writes.now) (all_within c.args.writes.now) is) rest)
     c.take_steps.ensures.storage c.take_steps.ensures.journal

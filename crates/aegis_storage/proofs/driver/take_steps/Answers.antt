@@ -1,8 +1,7 @@
 use Rattle.std.proofs.Common.{◌∙◌, ℕ, List, add-one, arith, length, refl, subst, sym, take}
-use Rattle.aegis_storage.specs.Steps.{IsNext, changes_of, journal_effect, step_at, steps_of, storage_effect}
+use Rattle.aegis_storage.specs.Steps.{IsNext, steps_of}
 use Rattle.aegis_storage.specs.declared.steps.Step.{Step}
-use Rattle.aegis_storage.proofs.Disks.{none_made}
-use Rattle.aegis_storage.proofs.Stepping.{if_same, is_next, made_in, reached_all, reached_first, reached_more, reached_stopped, reached_written, recovery_begins, replaces}
+use Rattle.aegis_storage.proofs.Stepping.{if_same, is_next, made_in, one_disk, reached_all, reached_first, reached_more, reached_written, recovery_begins, replaces, stopped_before, stopped_in_journal, stopped_in_storage}
 use Rattle.aegis_storage.proofs.driver.take_steps.Goals as goal
 
 pub overflow_add-number-end : goal.overflow_add-number-end
@@ -18,12 +17,6 @@ pub journal_step-requires : goal.journal_step-requires
 journal_step-requires g c is =
     let here = replaces c.args.order c.count_writes-writes.result c.steps.number (sym c.step_of-step.ensures ∙ is) in if_same c.args.whole.now _ _ (c.steps.invariant.kept here.0 here.1) (c.requires here.0)
 
-pub returns-in_err-journal_step-clause-stopped : goal.returns-in_err-journal_step-clause-stopped
-returns-in_err-journal_step-clause-stopped g c found within is =
-    let reached = c.steps.invariant.all found within is in
-    reached_stopped found c.args.whole.now (steps_of c.args.order (length found)) c.steps.number c.step_of-step.result c.steps.rest.now _ _ _ _ _ _ _ _ _ _ (rw reached.0 at c.step_of-step.ensures) reached.1
-    (none_made _ (changes_of (storage_effect found c.step_of-step.result))) c.journal_step.ensures.begun
-
 pub returns-in_err-rest-clause-stopped : goal.returns-in_err-rest-clause-stopped
 returns-in_err-rest-clause-stopped g c found within is =
     let reached = c.steps.invariant.all found within is in
@@ -31,8 +24,17 @@ returns-in_err-rest-clause-stopped g c found within is =
     let all : List Step = steps_of c.args.order (length found) in
     let made : ℕ = made_in (take c.steps.number all) in
     let next : IsNext c.step_of-step.result made (length found) = subst (λ (s : Step). IsNext s made (length found)) (sym step) (is_next c.args.order (length found) c.steps.number) in
-    reached_stopped found c.args.whole.now all c.steps.number c.step_of-step.result c.steps.rest.now _ _ _ _ _ _ _ _ _ _ step reached.1
-    (c.storage_step.ensures.begun found made within reached.1.left next) c.journal_step.ensures.begun
+    stopped_in_storage found c.args.whole.now all c.steps.number c.step_of-step.result c.steps.rest.now _ _ _ _ _ _ _ _ _ step reached.1 (c.in_err-rest.ensures.failed found made within reached.1.left next)
+
+pub returns-in_err-journal_step-clause-stopped : goal.returns-in_err-journal_step-clause-stopped
+returns-in_err-journal_step-clause-stopped g c found within is =
+    let reached = c.steps.invariant.all found within is in
+    let step = rw reached.0 at c.step_of-step.ensures in
+    let all : List Step = steps_of c.args.order (length found) in
+    let made : ℕ = made_in (take c.steps.number all) in
+    let next : IsNext c.step_of-step.result made (length found) = subst (λ (s : Step). IsNext s made (length found)) (sym step) (is_next c.args.order (length found) c.steps.number) in
+    stopped_in_journal found c.args.whole.now all c.steps.number c.step_of-step.result c.steps.rest.now _ _ _ _ _ _ _ _ _ _ _ step reached.1 (c.in_ok-rest.ensures.taken found made within reached.1.left next)
+    c.in_err-journal_step.ensures.failed
 
 pub steps-preserved : goal.steps-preserved
 steps-preserved g c = record {
@@ -46,7 +48,7 @@ steps-preserved g c = record {
       let next : IsNext c.step_of-step.result made (length found) = subst (λ (s : Step). IsNext s made (length found)) (sym step) (is_next c.args.order (length found) c.steps.number) in (
         reached.0,
         rw add-one
-            (reached_more found c.args.whole.now all c.steps.number c.step_of-step.result c.steps.rest.now c.in_ok-rest.rest.now _ _ _ _ _ _ _ _ _ _ _ _ step reached.1 c.in_ok-journal_step.ensures.taken
+            (reached_more found c.args.whole.now all c.steps.number c.step_of-step.result c.steps.rest.now c.in_ok-rest.rest.now _ _ _ _ _ _ _ _ _ _ _ _ step next reached.1 c.in_ok-journal_step.ensures.taken
             (c.in_ok-rest.ensures.taken found made within reached.1.left next) (c.in_ok-rest.ensures.left found made within reached.1.left next)),
       );
 }
@@ -54,9 +56,7 @@ steps-preserved g c = record {
 pub returns-clause-stopped : goal.returns-clause-stopped
 returns-clause-stopped g c found within is =
     let reached = c.steps.invariant.all found within is in
-    let step : Step = step_at (steps_of c.args.order (length found)) c.steps.number in
-    reached_stopped found c.args.whole.now (steps_of c.args.order (length found)) c.steps.number step c.steps.rest.now _ _ _ _ _ _ _ _ _ _ refl reached.1 (none_made _ (changes_of (storage_effect found step)))
-    (none_made _ (changes_of (journal_effect c.args.whole.now step)))
+    stopped_before found c.args.whole.now (steps_of c.args.order (length found)) c.steps.number c.steps.rest.now _ _ _ _ _ _ _ _ reached.1
 
 pub returns-clause-written : goal.returns-clause-written
 returns-clause-written g c found within is =
@@ -65,11 +65,13 @@ returns-clause-written g c found within is =
     reached_written c.args.order found c.args.whole.now c.steps.rest.now _ _ _ _ _ _ _ _ (reached_all c.args.order found c.args.whole.now c.steps.rest.now c.steps.number _ _ _ _ _ _ _ _ (omega (arith, counted)) reached.1)
 
 pub returns-clause-storage : goal.returns-clause-storage
-returns-clause-storage g c found within is =
+returns-clause-storage g c found within is h knows =
     let reached = c.steps.invariant.all found within is in
-    let counted = reached.0 in (reached_all c.args.order found c.args.whole.now c.steps.rest.now c.steps.number _ _ _ _ _ _ _ _ (omega (arith, counted)) reached.1).storage
+    let counted = reached.0 in
+    let all = reached_all c.args.order found c.args.whole.now c.steps.rest.now c.steps.number _ _ _ _ _ _ _ _ (omega (arith, counted)) reached.1 in one_disk _ _ _ (all.storage h knows)
 
 pub returns-clause-journal : goal.returns-clause-journal
-returns-clause-journal g c found within is =
+returns-clause-journal g c found within is h knows =
     let reached = c.steps.invariant.all found within is in
-    let counted = reached.0 in (reached_all c.args.order found c.args.whole.now c.steps.rest.now c.steps.number _ _ _ _ _ _ _ _ (omega (arith, counted)) reached.1).journal
+    let counted = reached.0 in
+    let all = reached_all c.args.order found c.args.whole.now c.steps.rest.now c.steps.number _ _ _ _ _ _ _ _ (omega (arith, counted)) reached.1 in one_disk _ _ _ (all.journal h knows)

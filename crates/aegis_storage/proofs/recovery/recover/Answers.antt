@@ -34,7 +34,7 @@ returns-clause-at_rest g c =
     subst (λ (l : List ℕ). AreRedone c.args.key.now c.args.context.now l found.0) (c.deref.ensures.value ∙ sym c.deref-2.ensures.value) found.3 in
     on_ok_both c.take_steps.result
     (λ storage journal xs writes no_forgery recovers.
-    recover_ended c.args.key.now c.args.context.now xs writes found.0 _ _ _ _ _ _ _ _ c.deref-2.result.now
+    recover_ended c.args.key.now c.args.context.now xs writes found.0 _ _ _ _ _ _ c.deref-2.result.now
     (recover_starts c.args.key.now c.args.context.now xs writes found.0 _ _ _ _ c.in_ok-whole.whole.items c.deref-2.result.now (g.met.S.Storage.possible c.args.storage.now) (g.met.J.Storage.possible c.args.journal.now)
     c.in_ok-whole.ensures c.deref-2.ensures.value redone no_forgery recovers)
     (storage found.0 found.1 found.2) (journal found.0 found.1 found.2))
