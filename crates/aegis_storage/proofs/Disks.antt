@@ -202,6 +202,19 @@ pub stays_certain : (old new : Disk) (xs : List ℕ) → IsWithin new (spoilt ol
 stays_certain old new xs p q =
     within_both new (spoilt old) (certain xs) p (within_both (spoilt old) (spoilt (certain xs)) (certain xs) (within_spoilt old (certain xs) q) (spoilt_certain xs))
 
+-- certain bytes that a crash may leave
+pub certain_within : (disk : Disk) (xs : List ℕ) → Crashed disk xs → IsWithin (certain xs) (spoilt disk)
+certain_within disk xs left = record {
+  also = λ rest bytes crashed. record {
+    base = xs;
+    of_lost = crashed_left disk xs left;
+    parts = crashed.parts;
+    of_pending = crashed.of_pending;
+    are = crashed.are ∙ ap (applied crashed.parts) crashed.of_lost;
+  };
+  settles = λ rest bytes settled base same. ap (applied rest) same ∙ settled xs (crashed_left disk xs left);
+}
+
 -- ---- what a sync makes certain
 
 pub settles_after : (xs : List ℕ) (more : List Change) → SettlesTo (after (certain xs) more) (applied more xs)

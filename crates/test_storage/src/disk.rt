@@ -1,8 +1,8 @@
 //! A disk that keeps what was written apart until it is synced, and whose calls fail from some call on.
 
-ghost use Rattle.std.specs.Prelude.{◌≡◌, ◌∷◌, [], IfOk, OnOk, Some};
+ghost use Rattle.std.specs.Prelude.{◌≡◌, ◌∷◌, [], IfOk, OnErr, OnOk, Some, false, true};
 ghost use Rattle.aegis_storage.specs.Disk.{applied};
-ghost use Rattle.test_storage.specs.Pending.{all_there, bytes_of, changes_of, disk_of};
+ghost use Rattle.test_storage.specs.Pending.{IsLost, IsSettled, all_there, bytes_of, changes_of, disk_of};
 
 use crate::pending::{NewSize, PendingChange};
 use aegis_storage::{PendingWrite, Storage};
@@ -11,12 +11,14 @@ use std::cell::Cell;
 use std::io;
 use std::io::ErrorKind;
 
-/// A disk: the synced bytes, and the changes since, the first of them first.
+/// A disk: the synced bytes, the changes since, the first of them first, and whether a call has failed. Then the changes
+/// may be lost, and every later call fails.
 #[derive(Drop)]
 pub struct TestDisk {
     pub alloc: Global,
     pub synced: Vec<u8>,
     pub pending: Vec<PendingChange>,
+    pub failed: bool,
     /// How many calls still succeed.
     pub calls: Cell<u64>,
 }
@@ -37,11 +39,13 @@ impl TestDisk {
     pub fn new(alloc: Global, synced: Vec<u8>, calls: u64) -> TestDisk
         ensures synced { result.synced ≡ synced }
         ensures pending { result.pending.items ≡ [] }
+        ensures failed { result.failed ≡ false }
     {
         TestDisk {
             alloc,
             synced,
             pending: Vec::new(alloc),
+            failed: false,
             calls: Cell::new(calls),
         }
     }
@@ -66,6 +70,35 @@ impl TestDisk {
         }
         Ok(())
     }
+
+    // Begins a call that changes the disk. Until it ends it has failed.
+    fn begin(&mut self) -> io::Result<()>
+        ensures synced { self.new.synced ≡ self.old.synced }
+        ensures pending { self.new.pending ≡ self.old.pending }
+        ensures failed { self.new.failed ≡ true }
+        ensures first { OnOk result (self.old.failed ≡ false) }
+    {
+        let failed = self.failed;
+        self.failed = true;
+        if failed {
+            return Err(io::Error::from(ErrorKind::Other));
+        }
+        Ok(())
+    }
+
+    // Syncs everything that was written.
+    fn settle(&mut self) -> io::Result<()>
+        ensures settled { OnOk result (IsSettled self.old self.new) }
+        ensures lost { OnErr result (IsLost self.old self.new) }
+    {
+        self.begin()?;
+        self.count()?;
+        let synced = self.current()?;
+        self.synced = synced;
+        self.pending.clear();
+        self.failed = false;
+        Ok(())
+    }
 }
 
 impl Storage for TestDisk {
@@ -85,29 +118,28 @@ impl Storage for TestDisk {
         Storage::read_at(&self.current()?, at, out)
     }
 
-    #[tactic(auto, using(crate::proofs::Changes::same))]
     fn write_at(&mut self, at: u64, part: &[u8]) -> io::Result<()> {
+        self.begin()?;
         let write = PendingWrite::new(self.alloc, at, part)?;
         self.pending.push(PendingChange::Write(write))?;
-        self.count()
+        self.count()?;
+        self.failed = false;
+        Ok(())
     }
 
-    #[tactic(auto, using(crate::proofs::Changes::same, crate::proofs::Changes::pushed))]
     fn set_size(&mut self, size: u64) -> io::Result<()> {
+        self.begin()?;
         self.count()?;
         self.pending.push(PendingChange::Size(NewSize { size }))?;
+        self.failed = false;
         Ok(())
     }
 
     fn replace(&mut self, _all: &[u8]) -> io::Result<()> {
-        self.sync()
+        self.settle()
     }
 
     fn sync(&mut self) -> io::Result<()> {
-        self.count()?;
-        let synced = self.current()?;
-        self.synced = synced;
-        self.pending.clear();
-        Ok(())
+        self.settle()
     }
 }

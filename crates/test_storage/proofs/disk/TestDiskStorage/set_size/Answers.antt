@@ -1,5 +1,17 @@
-use Rattle.test_storage.proofs.Changes.{applied_pushed}
+use Rattle.std.proofs.Common.{false, ap, ◌∙◌}
+use Rattle.aegis_storage.proofs.Disks.{on_err}
+use Rattle.test_storage.proofs.Changes.{pushed_bytes, unchanged_disk}
 use Rattle.test_storage.proofs.disk.TestDiskStorage.set_size.Goals as goal
 
+pub returns-in_err-begin-clause-spoilt : goal.returns-in_err-begin-clause-spoilt
+returns-in_err-begin-clause-spoilt c = on_err c.from_residual.result (unchanged_disk c.args.self.now c.begin.new.self _ c.begin.ensures.synced (ap (λ v. v.items) c.begin.ensures.pending) c.begin.ensures.failed)
+
+pub returns-in_err-count-clause-spoilt : goal.returns-in_err-count-clause-spoilt
+returns-in_err-count-clause-spoilt c = on_err c.from_residual-in_err-count.result (unchanged_disk c.args.self.now c.begin.new.self _ c.begin.ensures.synced (ap (λ v. v.items) c.begin.ensures.pending) c.begin.ensures.failed)
+
+pub returns-in_err-push-clause-spoilt : goal.returns-in_err-push-clause-spoilt
+returns-in_err-push-clause-spoilt c =
+    on_err c.from_residual-in_err-push.result (unchanged_disk c.args.self.now (record { alloc = c.begin.new.self.alloc; synced = c.begin.new.self.synced; pending = c.push.new.self; failed = c.begin.new.self.failed; calls = c.begin.new.self.calls }) _ c.begin.ensures.synced (c.in_err-push.ensures.items ∙ ap (λ v. v.items) c.begin.ensures.pending) c.begin.ensures.failed)
+
 pub returns-clause-resized : goal.returns-clause-resized
-returns-clause-resized c = applied_pushed c.args.self.now.pending.items c.push.new.self.items _ c.args.self.now.synced.items c.in_ok-push.ensures.items
+returns-clause-resized c = pushed_bytes c.args.self.now (record { alloc = c.begin.new.self.alloc; synced = c.begin.new.self.synced; pending = c.push.new.self; failed = false; calls = c.begin.new.self.calls }) _ c.begin.ensures.synced (rw c.begin.ensures.pending at c.in_ok-push.ensures.items)

@@ -1,6 +1,12 @@
-use Rattle.test_storage.specs.Pending.{all_there, bytes_of, disk_of}
-use Rattle.test_storage.proofs.Changes.{cleared}
+use Rattle.aegis_storage.proofs.Disks.{on_ok_map}
+use Rattle.test_storage.proofs.Changes.{kept, lost_disk, on_err_map, synced_now}
 use Rattle.test_storage.proofs.disk.TestDiskStorage.sync.Goals as goal
 
-pub returns-clause-pending : goal.returns-clause-pending
-returns-clause-pending c = cleared (disk_of c.args.self.now) (bytes_of c.args.self.now) _ _ (all_there c.args.self.now) c.in_ok-synced.ensures c.clear.ensures.items
+pub returns-clause-kept : goal.returns-clause-kept
+returns-clause-kept c = kept c.settle.result c.args.self.now c.settle.new.self c.settle.ensures.settled c.settle.ensures.lost
+
+pub returns-clause-synced : goal.returns-clause-synced
+returns-clause-synced c = on_ok_map c.settle.result (synced_now c.args.self.now c.settle.new.self) c.settle.ensures.settled
+
+pub returns-clause-spoilt : goal.returns-clause-spoilt
+returns-clause-spoilt c = on_err_map c.settle.result (lost_disk c.args.self.now c.settle.new.self) c.settle.ensures.lost

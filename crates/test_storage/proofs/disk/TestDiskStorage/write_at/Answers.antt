@@ -1,28 +1,32 @@
-use Rattle.std.proofs.Common.{◌≡◌, OnOk, OnErr, Result, Ok, Err, arith, inr}
-use Rattle.aegis_storage.specs.Bytes.{overwritten}
-use Rattle.aegis_storage.specs.Disk.{applied}
-use Rattle.test_storage.specs.Pending.{bytes_of, changes_of}
-use Rattle.test_storage.proofs.Changes.{applied_pushed, pushed}
+use Rattle.std.proofs.Common.{false, ◌∙◌, ap, arith, inr}
+use Rattle.aegis_storage.proofs.Disks.{on_err}
+use Rattle.test_storage.proofs.Changes.{left_disk, pushed_bytes, unchanged_disk}
 use Rattle.test_storage.proofs.disk.TestDiskStorage.write_at.Goals as goal
 
-all_ok : {T E P : Type 0} (r : Result T E) → P → OnOk r P
-all_ok (Ok x) p = p
-all_ok (Err e) p = tt
+pub returns-in_err-begin-clause-spoilt : goal.returns-in_err-begin-clause-spoilt
+returns-in_err-begin-clause-spoilt c = on_err c.from_residual.result (unchanged_disk c.args.self.now c.begin.new.self _ c.begin.ensures.synced (ap (λ v. v.items) c.begin.ensures.pending) c.begin.ensures.failed)
 
-all_err : {T E P : Type 0} (r : Result T E) → P → OnErr r P
-all_err (Ok x) p = tt
-all_err (Err e) p = p
+pub returns-in_err-write-clause-spoilt : goal.returns-in_err-write-clause-spoilt
+returns-in_err-write-clause-spoilt c = on_err c.from_residual-in_err-write.result (unchanged_disk c.args.self.now c.begin.new.self _ c.begin.ensures.synced (ap (λ v. v.items) c.begin.ensures.pending) c.begin.ensures.failed)
 
-is_written : (c : goal.After-count) → applied (changes_of c.push.new.self.items) c.args.self.now.synced.items ≡ overwritten (bytes_of c.args.self.now) c.args.at c.args.part.now
-is_written c =
-    rw (c.in_ok-write.ensures.place, c.in_ok-write.ensures.bytes) at (applied_pushed c.args.self.now.pending.items c.push.new.self.items _ c.args.self.now.synced.items c.in_ok-push.ensures.items)
+pub returns-in_err-push-clause-spoilt : goal.returns-in_err-push-clause-spoilt
+returns-in_err-push-clause-spoilt c =
+    on_err c.from_residual-in_err-push.result (unchanged_disk c.args.self.now (record { alloc = c.begin.new.self.alloc; synced = c.begin.new.self.synced; pending = c.push.new.self; failed = c.begin.new.self.failed; calls = c.begin.new.self.calls }) _ c.begin.ensures.synced (c.in_err-push.ensures.items ∙ ap (λ v. v.items) c.begin.ensures.pending) c.begin.ensures.failed)
+
+pub returns-in_err-count-clause-spoilt : goal.returns-in_err-count-clause-spoilt
+returns-in_err-count-clause-spoilt c =
+    on_err c.from_residual-in_err-count.result
+    (rw (c.in_ok-write.ensures.place, c.in_ok-write.ensures.bytes)
+    at (left_disk c.args.self.now (record { alloc = c.begin.new.self.alloc; synced = c.begin.new.self.synced; pending = c.push.new.self; failed = c.begin.new.self.failed; calls = c.begin.new.self.calls }) _ c.begin.ensures.synced c.in_ok-begin.ensures.first c.begin.ensures.failed (rw c.begin.ensures.pending at c.in_ok-push.ensures.items)))
+
+pub returns-in_err-count-clause-torn : goal.returns-in_err-count-clause-torn
+returns-in_err-count-clause-torn c =
+    on_err c.from_residual-in_err-count.result (inr (
+      c.args.part.now,
+      omega arith,
+      rw (c.in_ok-write.ensures.place, c.in_ok-write.ensures.bytes) at (pushed_bytes c.args.self.now (record { alloc = c.begin.new.self.alloc; synced = c.begin.new.self.synced; pending = c.push.new.self; failed = c.begin.new.self.failed; calls = c.begin.new.self.calls }) _ c.begin.ensures.synced (rw c.begin.ensures.pending at c.in_ok-push.ensures.items)),
+    ))
 
 pub returns-clause-written : goal.returns-clause-written
-returns-clause-written c = all_ok c.count.result (is_written c)
-
-pub returns-clause-torn : goal.returns-clause-torn
-returns-clause-torn c = all_err c.count.result (inr (c.args.part.now, omega arith, is_written c))
-
-pub returns-clause-pending : goal.returns-clause-pending
-returns-clause-pending c =
-    rw (c.in_ok-write.ensures.place, c.in_ok-write.ensures.bytes) at (pushed c.args.self.now.synced.items c.args.self.now.pending.items c.push.new.self.items _ c.in_ok-push.ensures.items)
+returns-clause-written c =
+    rw (c.in_ok-write.ensures.place, c.in_ok-write.ensures.bytes) at (pushed_bytes c.args.self.now (record { alloc = c.begin.new.self.alloc; synced = c.begin.new.self.synced; pending = c.push.new.self; failed = false; calls = c.begin.new.self.calls }) _ c.begin.ensures.synced (rw c.begin.ensures.pending at c.in_ok-push.ensures.items))
