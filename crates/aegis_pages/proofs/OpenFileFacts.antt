@@ -3,8 +3,8 @@ use Rattle.std.proofs.Common.{◌≡◌, ℕ, ◌+◌, ◌-◌, ◌<◌, ◌≤�
 use Rattle.std.proofs.lemmas.List.{append-nil, drop_all, ext_get_or, length-append, length-drop, length-take, nil_from_length, take_all}
 use Rattle.aegis_aes.specs.Lanes.{IsLaneCount}
 use Rattle.aegis_storage.specs.Bytes.{ResizesTo, WritesAt, overwritten, part_at, resized}
-use Rattle.aegis_storage.specs.Disk.{Adds, Disk, IsPossible, MakesCertain, Size, Write}
-use Rattle.aegis_storage.proofs.Disks.{left, readable}
+use Rattle.aegis_storage.specs.Disk.{Adds, Disk, IsPossible, IsSynced, IsWithin, MakesSynced, SettlesTo, Size, Write, after, certain}
+use Rattle.aegis_storage.proofs.Disks.{applied_append, readable, resized_none, settles_emptied, within_after, within_both, within_settles}
 use Rattle.std.specs.Io.KnownBytes.{Keeps}
 use Rattle.aegis_storage.proofs.Overwriting.{kept_part, length-overwritten, length-part, length-resized, part_byte, put_part, resized_byte}
 use Rattle.aegis_pages.specs.Changed.{Plaintexts, contents_at}
@@ -118,17 +118,42 @@ known_kept P None b c known keeps = tt
 known_kept P (Some xs) None c known keeps = absurd known
 known_kept P (Some xs) (Some ys) c known keeps = grind arith
 
-pub begun_certain : (P : List ℕ → Type 0) (a c : Option (List ℕ)) (old sized over new : Option Disk) (part : List ℕ) (disk : Disk) → IsPossible a old → IsPossible c over → IfSome a (λ _. IsKnown P c)
-    → Adds old sized (Size 0 ∷ []) → Adds sized over (Write 0 part ∷ []) → MakesCertain c over new → old ≡ Some disk → IsCertain P new
-begun_certain P a c old sized over new part disk before possible known sizes writes certainly is =
+-- a disk that is known stays known
+known_disk : (R : Disk → Disk → Type 0) (old new : Option Disk) (disk : Disk) → IfKnown R old new → old ≡ Some disk → (now : Disk) × (new ≡ Some now) × R disk now
+known_disk R old new disk known is = cases new (rw is at known)
+  where
+    cases : (new : Option Disk) → IfKnown R (Some disk) new → (now : Disk) × (new ≡ Some now) × R disk now
+    cases None k = absurd k
+    cases (Some now) k = (now, refl, k)
+
+-- what the header is written over
+begun_bytes : (xs part : List ℕ) (b c : Option (List ℕ)) → ResizesTo (Some xs) b 0 → WritesAt b c 0 part → c ≡ Some (overwritten [] 0 part)
+begun_bytes xs part None c r w = absurd r
+begun_bytes xs part (Some ys) None r w = absurd w
+begun_bytes xs part (Some ys) (Some zs) r w = ap Some (w ∙ ap (λ (l : List ℕ). overwritten l 0 part) (r ∙ resized_none xs))
+
+pub begun_certain : (P : List ℕ → Type 0) (a b c : Option (List ℕ)) (old sized over new : Option Disk) (part : List ℕ) (disk : Disk) → IsPossible a old → IfSome a (λ _. IsKnown P c) → ResizesTo a b 0 → WritesAt b c 0 part
+    → Adds old sized (Size 0 ∷ []) → Adds sized over (Write 0 part ∷ []) → IsSynced over new → old ≡ Some disk → IsCertain P new
+begun_certain P a b c old sized over new part disk before known resizes written sizes writes synced is =
     let x = readable a old disk before is in
-    let cut = left old sized disk (Size 0 ∷ []) sizes is in
-    let now = left sized over cut.disk (Write 0 part ∷ []) writes cut.is in
-    let y = readable c over now.disk possible now.is in record {
-      bytes = y.xs;
-      is = certainly now.disk y.xs now.is y.is;
-      so = subst (IsKnown P) y.is (subst (λ (o : Option (List ℕ)). IfSome o (λ _. IsKnown P c)) x.is known);
+    let cut = known_disk (λ disk now. IsWithin now (after disk (Size 0 ∷ []))) old sized disk sizes is in
+    let now = known_disk (λ disk now. IsWithin now (after disk (Write 0 part ∷ []))) sized over cut.0 writes cut.1 in
+    let done = known_disk MakesSynced over new now.0 synced now.1 in
+    let both : Disk = after (after disk (Size 0 ∷ [])) (Write 0 part ∷ []) in
+    let settled : SettlesTo both (overwritten [] 0 part) = λ base left.
+    applied_append (disk.pending ++ Size 0 ∷ []) (Write 0 part ∷ []) base ∙ ap (λ (l : List ℕ). overwritten l 0 part) (settles_emptied disk base left) in
+    let within : IsWithin now.0 both = within_both now.0 (after cut.0 (Write 0 part ∷ [])) both now.2 (within_after cut.0 (after disk (Size 0 ∷ [])) (Write 0 part ∷ []) cut.2) in
+    let bytes : c ≡ Some (overwritten [] 0 part) = begun_bytes x.xs part b c (rw x.is at resizes) written in record {
+      bytes = overwritten [] 0 part;
+      is = done.1 ∙ ap Some (done.2.certainly (overwritten [] 0 part) (within_settles now.0 both (overwritten [] 0 part) within settled));
+      so = subst (IsKnown P) bytes (subst (λ (o : Option (List ℕ)). IfSome o (λ _. IsKnown P c)) x.is known);
     }
+
+-- a journal that is emptied and synced
+pub emptied_certain : (old sized new : Option Disk) (disk : Disk) → Adds old sized (Size 0 ∷ []) → IsSynced sized new → old ≡ Some disk → new ≡ Some (certain [])
+emptied_certain old sized new disk sizes synced is =
+    let cut = known_disk (λ disk now. IsWithin now (after disk (Size 0 ∷ []))) old sized disk sizes is in
+    let done = known_disk MakesSynced sized new cut.0 synced cut.1 in done.1 ∙ ap Some (done.2.certainly [] (within_settles cut.0 (after disk (Size 0 ∷ [])) [] cut.2 (settles_emptied disk)))
 
 pub created_has : (layout : Layout) (changes : Plaintexts) (b : Option (List ℕ)) → ((k : ℕ) → contents_at changes k ≡ None) → IsKnown (IsHeader layout 0 0) b → IsKnown (Has layout 0 0 0 changes false []) b
 created_has layout changes None none known = absurd known

@@ -116,7 +116,8 @@ fn begin_file<S: Storage, N: Nonces, L: LaneState, const KEY_BYTES: usize, A: Al
     }
 }
 
-// Returns an error if a journal is not empty, and syncs it.
+// Returns an error if a journal is not empty. Then empties it and syncs it: after a sync that failed, the disk may have
+// bytes that cannot be read.
 fn begin_journal<J: Storage>(journal: &mut J) -> Result<(), PagesError>
     ensures certain { OnOk result ((disk : Disk) → J.disk journal.old ≡ Some disk
         → J.disk journal.new ≡ Some (certain [])) }
@@ -130,6 +131,10 @@ fn begin_journal<J: Storage>(journal: &mut J) -> Result<(), PagesError>
             }
         }
         Err(error) => return Err(PagesError::Read(error)),
+    }
+    match journal.set_size(0) {
+        Ok(()) => {}
+        Err(error) => return Err(PagesError::Write(error)),
     }
     match journal.sync() {
         Ok(()) => Ok(()),

@@ -44,14 +44,15 @@ pub trait Storage {
 
     /// Writes all of `part` over the bytes from `at` on. What lies past the end is added, and a gap is filled with
     /// zeros. After an error the bytes from `at` on may be any, as many as `part` has at most, and the others are as
-    /// they were. Until a sync, a crash may leave any parts of the write. After an error it may leave them for ever, and
-    /// so it may any part of what was not synced yet.
+    /// they were. Until a sync, a crash may leave any parts of the write. After an error it may leave them for ever,
+    /// and so it may any part of what was not synced yet.
     fn write_at(&mut self, at: u64, part: &[u8]) -> io::Result<()>
         requires { at + length part.now ≤ MAX_STORAGE_BYTES }
         ensures written { OnOk result (WritesAt (bytes self.old) (bytes self.new) at part.now) }
         ensures torn { OnErr result
             (TearsAt (bytes self.old) (bytes self.new) at (length part.now)) }
-        ensures pending { OnOk result (Adds (disk self.old) (disk self.new) (Write at part.now ∷ [])) }
+        ensures pending { OnOk result
+            (Adds (disk self.old) (disk self.new) (Write at part.now ∷ [])) }
         ensures spoilt { OnErr result
             (Spoils (disk self.old) (disk self.new) (Write at part.now ∷ [])) };
 
@@ -77,8 +78,8 @@ pub trait Storage {
         ensures spoilt { OnErr result (Spoils (disk self.old) (disk self.new) []) };
 
     /// Returns once a crash leaves all that was written since the last call that failed. For a file the system must
-    /// ensure that; a vector's contract speaks of the model alone. After an error what was written may be lost for ever,
-    /// although it can be read: no later sync makes it certain, unless it is written again, or replaced.
+    /// ensure that; a vector's contract speaks of the model alone. After an error what was written may be lost for
+    /// ever, although it can be read: no later sync makes it certain, unless it is written again, or replaced.
     fn sync(&mut self) -> io::Result<()>
         ensures kept { Keeps (bytes self.old) (bytes self.new) }
         ensures synced { OnOk result (IsSynced (disk self.old) (disk self.new)) }

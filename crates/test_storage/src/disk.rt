@@ -11,8 +11,8 @@ use std::cell::Cell;
 use std::io;
 use std::io::ErrorKind;
 
-/// A disk: the synced bytes, the changes since, the first of them first, and whether a call has failed. Then the changes
-/// may be lost, and every later call fails.
+/// A disk: the synced bytes, the changes since, the first of them first, and whether a call has failed. Then the
+/// changes may be lost, and every later call fails.
 #[derive(Drop)]
 pub struct TestDisk {
     pub alloc: Global,

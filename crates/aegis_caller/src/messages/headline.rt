@@ -1,13 +1,72 @@
 //! The whole promise, from the contracts alone, for each of the six variants and both lengths of a tag: what is sealed
 //! in any chunks opens in others, and with no other tag. Keystreams and MACs are those of the definitions.
 
-ghost use Rattle.std.specs.Prelude.{◌≡◌, ◌≢◌, ◌+◌, ◌≤◌, ◌++◌, IsOk, length};
-ghost use Rattle.aegis_base.specs.Chunks.{erased, joined};
+ghost use Rattle.std.specs.Prelude.{◌≡◌, ◌≢◌, ℕ, ◌+◌, ◌≤◌, ◌++◌, IsOk, List, OnErr, length, replicate, take};
+ghost use Rattle.aegis_base.specs.Chunks.{accepted, erased, joined};
 ghost use Rattle.aegis_base.specs.Lane.{IsTagLength};
+ghost use Rattle.aegis_base.specs.Limits.{erased_byte};
 ghost use Rattle.aegis_variants.specs.Cipher.{keystream_of, mac_by, sealed_by};
 
+use aegis::laws::keystream_xor_twice;
 use aegis::{Error, MAX_AEAD_BYTES};
 use aegis_variants::{AnyCipher, with_cipher, with_mac};
+
+/// Decrypts in place: `Ok` exactly if some message encrypts to this ciphertext and tag, and the buffer then is that
+/// message. Otherwise the buffer has no byte of any.
+pub fn open_exactly<const TAG_BYTES: usize>(
+    cipher: &AnyCipher,
+    associated_data: &[u8],
+    buffer: &mut [u8],
+    tag: &[u8; TAG_BYTES],
+) -> Result<(), Error>
+    requires tag_length { IsTagLength TAG_BYTES }
+    requires associated_data_within { length associated_data.now ≤ MAX_AEAD_BYTES }
+    requires message_within { length buffer.old ≤ MAX_AEAD_BYTES }
+    ensures ok_only { IsOk result
+        → sealed_by cipher.now TAG_BYTES associated_data.now buffer.new ≡ (buffer.old, tag.now) }
+    ensures ok_if { (m : List ℕ)
+        → sealed_by cipher.now TAG_BYTES associated_data.now m ≡ (buffer.old, tag.now)
+        → IsOk result × (buffer.new ≡ m) }
+    ensures no_byte { OnErr result (buffer.new ≡ replicate (length buffer.old) erased_byte) }
+{
+    cipher.decrypt_in_place(buffer, tag, associated_data)
+}
+
+/// The same in chunks, of which those count that the destination has room for: the others are refused, and count as not
+/// made. Zeros then overwrite what was written.
+pub fn open_exactly_in_chunks<const TAG_BYTES: usize>(
+    cipher: &AnyCipher,
+    associated_data: &[u8],
+    chunks: &[&[u8]],
+    tag: &[u8; TAG_BYTES],
+    destination: &mut [u8],
+) -> Result<usize, Error>
+    requires tag_length { IsTagLength TAG_BYTES }
+    requires associated_data_within { length associated_data.now ≤ MAX_AEAD_BYTES }
+    ensures ok_only { IsOk result
+        → sealed_by cipher.now TAG_BYTES associated_data.now
+        (take (length (accepted (length destination.old) chunks.now)) destination.new)
+        ≡ (accepted (length destination.old) chunks.now, tag.now) }
+    ensures ok_if { (m : List ℕ) → sealed_by cipher.now TAG_BYTES associated_data.now m
+        ≡ (accepted (length destination.old) chunks.now, tag.now)
+        → IsOk result
+        × (take (length (accepted (length destination.old) chunks.now)) destination.new ≡ m) }
+    ensures no_byte { OnErr result (destination.new
+        ≡ erased (length (accepted (length destination.old) chunks.now)) destination.old) }
+{
+    with_cipher!(cipher, TAG_BYTES, cipher => {
+        cipher.open_chunks_len(associated_data, chunks, tag, destination)
+    })
+}
+
+/// Xors a buffer with the keystream twice: it is as it was.
+pub fn xor_twice(cipher: &AnyCipher, buffer: &mut [u8])
+    ensures { buffer.new ≡ buffer.old }
+{
+    keystream_xor_twice();
+    cipher.stream_xor_in_place(buffer);
+    cipher.stream_xor_in_place(buffer)
+}
 
 /// Opens a message that was sealed in any chunks, in any others that have its ciphertext.
 pub fn open_in_other_chunks<const TAG_BYTES: usize>(

@@ -11,7 +11,7 @@ returns-in-Ok-sync-clause-known g c =
 
 pub returns-in-Ok-sync-clause-certain : goal.returns-in-Ok-sync-clause-certain
 returns-in-Ok-sync-clause-certain g c disk is =
-    begun_certain (IsHeader c.args.layout.now 0 0) _ _ _ _ _ _ c.deref.result.now disk (g.met.S.Storage.possible c.args.storage.now) (g.met.S.Storage.possible c.write_at.new.self)
+    begun_certain (IsHeader c.args.layout.now 0 0) _ _ _ _ _ _ _ c.deref.result.now disk (g.met.S.Storage.possible c.args.storage.now)
     (begun_known c.args.layout.now c.deref.result.now _ _ _ (ap (λ (l : List ℕ). length l) c.deref.ensures.value ∙ c.in_ok-header.ensures.size)
     (subst (IsHeaderBlock c.args.layout.now 0 0) (sym c.deref.ensures.value) c.in_ok-header.ensures.header) c.in-Ok.ensures.resized c.in-Ok-write_at.ensures.written)
-    c.in-Ok.ensures.pending c.in-Ok-write_at.ensures.pending c.in-Ok-sync.ensures.certain is
+    c.in-Ok.ensures.resized c.in-Ok-write_at.ensures.written c.in-Ok.ensures.pending c.in-Ok-write_at.ensures.pending c.in-Ok-sync.ensures.synced is
