@@ -121,11 +121,11 @@ static int is_file(const struct stat *found)
 
 /* The descriptors are -1 if they are not open. */
 struct posix {
-    int file, journal, folder;
+    struct process owner;
+    int file, journal;
     int is_locked, is_name_synced, is_journal_name_synced;
     /* Whether the file was made, and has no header yet. Then it is removed if it is closed. */
     int is_unfinished;
-    struct process owner;
     /* The paths, with no links in them: of the file, its journal, the copy of that, and the folder. */
     char *path, *journal_path, *copy_path, *folder_path;
     char paths[];
@@ -141,12 +141,15 @@ static int check_name(const struct posix *posix)
     return is_there && own.st_nlink == 1 && is_same(&own, &found) ? 0 : HUNKRAVY_FILE_MOVED;
 }
 
-static int sync_folder(struct posix *posix)
+/* Syncs the names in the folder. If the user may not read the folder, they cannot be. */
+static int sync_folder(const struct posix *posix)
 {
-    if (posix->folder < 0) {
-        posix->folder = open(posix->folder_path, O_RDONLY | O_DIRECTORY | O_CLOEXEC);
+    int folder = open(posix->folder_path, O_RDONLY | O_DIRECTORY | O_CLOEXEC);
+    int code = folder < 0 ? errno : sync_fd(folder);
+    if (folder >= 0) {
+        close(folder);
     }
-    return posix->folder < 0 ? errno : sync_fd(posix->folder);
+    return code;
 }
 
 static int is_empty(int fd)
@@ -282,8 +285,9 @@ static int remove_empty(const struct posix *posix)
 static int make_beside(const struct posix *posix, const char *path, int *made)
 {
     struct stat of, own;
+    int fd, code;
     TRY(look(posix->file, &of));
-    int fd = open(path, O_RDWR | O_CREAT | O_EXCL | O_CLOEXEC, 0600), code;
+    fd = open(path, O_RDWR | O_CREAT | O_EXCL | O_CLOEXEC, 0600);
     if (fd < 0) {
         return errno;
     }
@@ -471,9 +475,6 @@ static void system_close(void *context)
     if (posix->journal >= 0) {
         close(posix->journal);
     }
-    if (posix->folder >= 0) {
-        close(posix->folder);
-    }
     close(posix->file);
     free(posix);
 }
@@ -506,12 +507,13 @@ static struct posix *with_paths(const char *path)
 int hunkravy_file_posix(struct hunkravy_storage *storage, const char *path, int is_new)
 {
     struct process owner;
+    struct posix *posix;
     int code = hunkravy_file_this_process(&owner);
     int file = code != 0 ? -1 : open(path, O_RDWR | O_CLOEXEC | (is_new ? O_CREAT | O_EXCL : 0), 0666);
     if (file < 0) {
         return code != 0 ? code : errno;
     }
-    struct posix *posix = with_paths(path);
+    posix = with_paths(path);
     if (posix == NULL) {
         code = errno;
         if (is_new) {
@@ -521,7 +523,7 @@ int hunkravy_file_posix(struct hunkravy_storage *storage, const char *path, int 
         return code;
     }
     posix->file = file;
-    posix->journal = posix->folder = -1;
+    posix->journal = -1;
     posix->is_unfinished = is_new;
     posix->owner = owner;
     *storage = (struct hunkravy_storage){

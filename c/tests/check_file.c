@@ -1,7 +1,7 @@
 /*
- * Random-access files. Random calls are made to a file and to a model of it. A commit and the opening after it are stopped
- * at each call of the storage, any of their syncs fail, and the power fails: each time the file has all of the change, or
- * none of it. Each allocation fails by turns.
+ * Random-access files. Random calls are made to a file and to a model of it, and those of testkit/batches.txt. A commit and
+ * the opening after it are stopped at each call of the storage, any of their syncs fail, and the power fails: each time the
+ * file has all of the change, or none of it. Each allocation fails by turns.
  *
  *     check_file batches FILE [write]
  *
@@ -48,7 +48,14 @@ void *__wrap_malloc(size_t length)
 {
     /* A sanitizer ends the program for so much. */
     int is_too_much = length >> 40 != 0;
-    return is_refused() || is_too_much ? (errno = ENOMEM, (void *)NULL) : __real_malloc(length);
+    void *memory = is_refused() || is_too_much ? NULL : __real_malloc(length);
+    if (memory == NULL) {
+        errno = ENOMEM;
+    } else if (length < 5000) {
+        /* So that a page which keeps any of this is found. */
+        memset(memory, 0xdd, length);
+    }
+    return memory;
 }
 
 void *__wrap_calloc(size_t count, size_t length)
@@ -58,7 +65,7 @@ void *__wrap_calloc(size_t count, size_t length)
 
 /* ---- A disk that may stop, and what it then has */
 
-enum { MOST_STORED = 1 << 17, MOST_DIRTY = 512, STOPPED = 5, ALL = 1 << 30 };
+enum { MOST_STORED = 1 << 17, MOST_DIRTY = 512, STOPPED = 200, ALL = 1 << 30 };
 
 struct part {
     size_t length, stored_length, dirty_count;
@@ -71,7 +78,7 @@ struct part {
 /* Calls are left until it stops, and syncs until one fails. */
 struct disk {
     struct part part[2];
-    int calls_left, syncs_left, is_locked;
+    int calls_left, syncs_left, is_locked, is_full;
 };
 
 static int is_stopped(struct disk *disk)
@@ -149,6 +156,9 @@ static int disk_write(void *context, enum hunkravy_part which, uint64_t place, c
     HOLDS(place + length <= MOST_STORED);
     if (stops && (disk->is_locked != 1 || draw(2))) {
         return STOPPED;
+    }
+    if (disk->is_full && place + length > part->length) {
+        return ENOSPC;
     }
     if (place > part->length) {
         memset(part->now + part->length, 0, place - part->length);
@@ -235,6 +245,9 @@ static int disk_reserve(void *context, uint64_t from, uint64_t end)
     struct part *part = &disk->part[HUNKRAVY_PART_FILE];
     if (is_stopped(disk)) {
         return STOPPED;
+    }
+    if (disk->is_full && end > part->length) {
+        return ENOSPC;
     }
     if (end > from && end > part->length) {
         memset(part->now + part->length, 0, end - part->length);
@@ -436,11 +449,21 @@ static int commit_once(
     disk.syncs_left = syncs;
     code = hunkravy_file_commit(file);
     HOLDS(code == 0 || code == STOPPED || code == EIO);
+    /* An error of the first syncs, those of the journal, is no reason to open the file again. */
+    HOLDS(calls != ALL || code == 0 || (hunkravy_file_check(file) == HUNKRAVY_OK) == (syncs < 2));
     if (code != 0 && hunkravy_file_check(file) == HUNKRAVY_OK) {
         check_equal(file, after);
-        hunkravy_file_discard(file);
-        check_equal(file, before);
+        if (calls == ALL && draw(2)) {
+            code = hunkravy_file_commit(file);
+            HOLDS(code == 0);
+        } else {
+            hunkravy_file_discard(file);
+            check_equal(file, before);
+        }
     }
+    /* A commit leaves nothing to be synced, or the file as it was. */
+    HOLDS(hunkravy_file_check(file) != 0 || disk.part[HUNKRAVY_PART_JOURNAL].stored_length == 0);
+    HOLDS(code != 0 || disk.part[HUNKRAVY_PART_JOURNAL].dirty_count + disk.part[HUNKRAVY_PART_FILE].dirty_count == 0);
     disk.calls_left = 0;
     hunkravy_file_discard(file);
     code = hunkravy_file_close(file) == HUNKRAVY_FILE_BROKEN ? STOPPED : code;
@@ -477,6 +500,161 @@ static void check_crashes(unsigned long commits)
         HOLDS(hunkravy_file_close(file) == 0);
     }
     HOLDS(changed_states > states / 20 && changed_states < states);
+}
+
+/* After the contents a page has zeros, and nothing of the memory that it was made in. */
+static void check_zeros(void)
+{
+    static struct disk disk;
+    struct hunkravy_storage storage = over(&disk);
+    uint8_t *page = disk.part[HUNKRAVY_PART_FILE].now + HUNKRAVY_PAGE_FIRST, id[HUNKRAVY_PAGE_ID_BYTES];
+    uint64_t counter, length;
+    uint32_t size;
+    hunkravy_file *file;
+
+    disk.calls_left = disk.syncs_left = ALL;
+    HOLDS(hunkravy_file_create_in(&file, &storage, HUNKRAVY_AEGIS256, key, sizeof key, 256) == 0);
+    HOLDS(hunkravy_file_write(file, 2, "contents", 8) == 0 && hunkravy_file_close(file) == 0);
+    HOLDS(hunkravy_page_header_open(HUNKRAVY_AEGIS256, disk.part[HUNKRAVY_PART_FILE].now, key, sizeof key, &size, id,
+              &counter, &length) == 0);
+    HOLDS(counter == 1 && length == 10 && size == 256);
+    HOLDS(hunkravy_page_open(HUNKRAVY_AEGIS256, page, sizeof key + 256 + TAG_BYTES, id, 0, key, sizeof key) == 0);
+    HOLDS(memcmp(page + sizeof key, "\0\0contents", 10) == 0 && all_are(page + sizeof key + 10, 246, 0));
+}
+
+/* ---- The table of batches */
+
+/* The file of a scene, and its batches: those that no line has named yet are from `first` up to `last`. */
+struct scene {
+    struct disk disk;
+    hunkravy_file *file;
+    uint64_t batches[8], ended;
+    int first, last, line;
+};
+
+static void kill_scene(struct scene *scene)
+{
+    if (scene->file != NULL) {
+        hunkravy_file_discard(scene->file);
+        HOLDS(hunkravy_file_close(scene->file) == 0);
+    }
+    scene->file = NULL;
+}
+
+static void begin_scene(struct scene *scene)
+{
+    struct hunkravy_storage storage = over(&scene->disk);
+    kill_scene(scene);
+    memset(&scene->disk, 0, sizeof scene->disk);
+    scene->first = scene->last = 0;
+    scene->disk.calls_left = scene->disk.syncs_left = ALL;
+    HOLDS(hunkravy_file_create_in(&scene->file, &storage, HUNKRAVY_AEGIS256, key, sizeof key, 0) == 0);
+}
+
+static const char *name_of(int code)
+{
+    return code == 0                     ? "ok"
+        : code == HUNKRAVY_OPEN_BATCH    ? "open-batch"
+        : code == HUNKRAVY_WRONG_STATE   ? "wrong-state"
+        : code == HUNKRAVY_FILE_TOO_LONG ? "too-long"
+        : code == ENOSPC                 ? "no-room"
+                                         : "another code";
+}
+
+/* Compares contents with the hexadecimal bytes of a line. */
+static int has_contents(hunkravy_file *file, const char *expected)
+{
+    static struct bytes bytes;
+    uint8_t found[64];
+    size_t length = 0;
+    read_bytes(&bytes, expected);
+    HOLDS(hunkravy_file_read(file, 0, found, sizeof found, &length) == 0 && length == hunkravy_file_size(file));
+    return length == bytes.length && memcmp(found, bytes.at, length) == 0;
+}
+
+/* Takes the number of the batch that a line names. */
+static uint64_t named_batch(struct scene *scene, int is_outer)
+{
+    if (scene->first == scene->last) {
+        return scene->ended;
+    }
+    return scene->ended = scene->batches[is_outer ? scene->first++ : --scene->last];
+}
+
+static int has_stored(const struct disk *from, const char *expected)
+{
+    static struct disk disk;
+    struct hunkravy_storage storage = over(&disk);
+    hunkravy_file *file;
+    int is_right;
+    disk = *from;
+    disk.is_locked = disk.is_full = 0;
+    HOLDS(hunkravy_file_open_in(&file, &storage, HUNKRAVY_AEGIS256, key, sizeof key) == 0);
+    is_right = has_contents(file, expected);
+    HOLDS(hunkravy_file_close(file) == 0);
+    return is_right;
+}
+
+/* Makes the call of a line, which has these words, and returns whether its result is right. */
+static int is_right_line(struct scene *scene, char **words)
+{
+    static struct bytes data;
+    hunkravy_file *file = scene->file;
+    const char *call = words[0], *result = words[1];
+    uint64_t number = result == NULL ? 0 : strtoull(result, NULL, 10);
+    int code = 0;
+    if (strcmp(call, "begin") == 0) {
+        code = hunkravy_file_begin(file, &scene->batches[scene->last++]);
+    } else if (strncmp(call, "end", 3) == 0) {
+        code = hunkravy_file_end(file, named_batch(scene, call[3] == '-'));
+    } else if (strncmp(call, "undo", 4) == 0) {
+        hunkravy_file_undo(file, named_batch(scene, call[4] == '-'));
+    } else if (strcmp(call, "write") == 0) {
+        read_bytes(&data, words[2]);
+        code = hunkravy_file_write(file, number, data.at, data.length);
+        result = words[3];
+    } else if (strcmp(call, "truncate") == 0) {
+        code = hunkravy_file_truncate(file, number);
+        result = words[2];
+    } else if (strcmp(call, "commit") == 0) {
+        code = hunkravy_file_commit(file);
+    } else if (strcmp(call, "discard") == 0) {
+        hunkravy_file_discard(file);
+    } else if (strcmp(call, "close") == 0) {
+        code = hunkravy_file_close(file);
+        scene->file = NULL;
+    } else if (strcmp(call, "contents") == 0) {
+        return has_contents(file, words[1]);
+    } else if (strcmp(call, "stored") == 0) {
+        return has_stored(&scene->disk, words[1]);
+    } else {
+        HOLDS(strcmp(call, "no-room") == 0 || strcmp(call, "room") == 0);
+        scene->disk.is_full = call[0] == 'n';
+        return 1;
+    }
+    return strcmp(name_of(code), result) == 0;
+}
+
+static void check_batches(void)
+{
+    static struct scene scene;
+    FILE *table = fopen("testkit/batches.txt", "r");
+    char line[200], *words[MOST_FIELDS];
+    unsigned long scenes = 0;
+
+    HOLDS(table != NULL);
+    while (fgets(line, sizeof line, table) != NULL) {
+        scene.line++;
+        if (line[0] == '[') {
+            begin_scene(&scene);
+            scenes++;
+        } else if (line[0] != '#' && split(line, words) > 0 && !is_right_line(&scene, words)) {
+            fprintf(stderr, "testkit/batches.txt:%d: another result\n", scene.line);
+            HOLDS(!"what the table has");
+        }
+    }
+    kill_scene(&scene);
+    HOLDS(fclose(table) == 0 && scenes > 20);
 }
 
 /* ---- Memory that runs out */
@@ -652,6 +830,8 @@ int main(int argc, char **argv)
         check_calls((uint32_t)i, i % 2 == 0 ? 256 : 0);
     }
     check_system();
+    check_batches();
+    check_zeros();
     check_memory();
     check_crashes(argc == 2 && argv[1][0] >= '0' && argv[1][0] <= '9' ? strtoul(argv[1], NULL, 10) : 30);
     printf("random-access files: %lu checks, %lu crashes, %lu with the change\n", checks, states, changed_states);

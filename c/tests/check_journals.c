@@ -3,6 +3,7 @@
  * what is made of whole, torn, changed and other journals, of a file with a header and without one.
  * It ends with status 0 only if every result is right.
  */
+#include "../library/journal.h"
 #include "check.h"
 
 #define BLOCK HUNKRAVY_PAGE_HEADER_BLOCK_BYTES
@@ -221,8 +222,8 @@ static void check_variant(const struct variant *variant)
 }
 
 /* The steps of a commit or of a recovery: these, and then none. */
-static void check_steps(uint32_t (*step)(uint64_t, uint64_t, uint64_t *), const uint32_t *wanted, size_t count,
-    uint64_t writes)
+static void check_steps(
+    uint32_t (*step)(uint64_t, uint64_t, uint64_t *), const uint32_t *wanted, size_t count, uint64_t writes)
 {
     uint64_t made = 0, write;
 

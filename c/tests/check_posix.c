@@ -335,8 +335,8 @@ static void check_modes(void)
         for (refuses_owners = 0; refuses_owners < 2; refuses_owners++) {
             HOLDS(hunkravy_file_create(&file, paths[0], HUNKRAVY_AEGIS256, key, sizeof key, 0) == 0);
             HOLDS(chmod(paths[0], modes[i][0]) == 0 && hunkravy_file_write(file, 0, "x", 1) == 0);
-            /* After the first writes to the journal. */
-            syncs_left = 2;
+            /* The sync of the file fails, so the journal is left. */
+            syncs_left = 4;
             HOLDS(hunkravy_file_commit(file) == EIO && hunkravy_file_close(file) == HUNKRAVY_FILE_BROKEN);
             HOLDS(stat(paths[1], &found) == 0 && (found.st_mode & 0777) == modes[i][1]);
             HOLDS(__real_unlink(paths[0]) == 0 && __real_unlink(paths[1]) == 0);
