@@ -443,9 +443,13 @@ int hunkravy_file_end(hunkravy_file *file, uint64_t number)
     return code;
 }
 
-int hunkravy_file_is_in_batch(const hunkravy_file *file)
+uint64_t hunkravy_file_open_batches(const hunkravy_file *file)
 {
-    return file->batch != NULL;
+    uint64_t count = 0;
+    for (const struct batch *batch = file->batch; batch != NULL; batch = batch->outer) {
+        count++;
+    }
+    return count;
 }
 
 void hunkravy_file_discard(hunkravy_file *file)

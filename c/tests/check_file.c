@@ -379,7 +379,7 @@ static void check_calls(uint32_t variant, uint32_t page_size)
             depth = 0;
             HOLDS(hunkravy_file_open_in(&file, &storage, variant, key, klen) == 0);
         }
-        HOLDS(hunkravy_file_is_in_batch(file) == (depth > 0));
+        HOLDS(hunkravy_file_open_batches(file) == depth);
         check_equal(file, &model);
     }
     hunkravy_file_discard(file);

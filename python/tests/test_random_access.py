@@ -1,12 +1,13 @@
-"""Random-access files: batches, locks and moved files, journals that are left, and file objects over them.
+"""Random-access files: batches, threads, signals, integers, and file objects over them.
 
-What a crash leaves is tested in c/tests/check_file.c, over the same engine.
+What a crash leaves, and owners, names and locks, are tested in c/tests, over the same engine.
 """
 
 import concurrent.futures
 import contextlib
 import copy
 import dis
+import errno
 import fcntl
 import functools
 import gc
@@ -16,6 +17,7 @@ import os
 import pathlib
 import random
 import resource
+import shutil
 import signal
 import sys
 import tarfile
@@ -24,11 +26,12 @@ import threading
 import unittest
 import zipfile
 from collections.abc import Callable, Generator
-from typing import Any
+from typing import Any, Optional
 
 from hunkravy import Aegis128L, Aegis128X4, Aegis256, RandomAccessError, RandomAccessFile, _native, _random_access
 
 KEY = bytes(range(32))
+TABLE = pathlib.Path(__file__).parents[2] / "testkit" / "batches.txt"
 PAGE = 256
 
 
@@ -90,21 +93,76 @@ def contents(path: Any, key: bytes = KEY) -> Any:
         return file.read_at(0, file.size)
 
 
+class Scene:
+    """A scene of testkit/batches.txt."""
+
+    def __init__(self, path: pathlib.Path) -> None:
+        self.path = path
+        self.file = RandomAccessFile.create(path, KEY)
+        # Those that no line has named, and the one that was named last.
+        self.batches: list[Any] = []
+        self.ended: Any = None
+
+    def play(self, lines: list[list[str]]) -> None:
+        is_full = False
+        for call, *words in lines:
+            if call.endswith("room"):
+                is_full = call == "no-room"
+                continue
+            with limited(0) if is_full and call != "stored" else contextlib.nullcontext():
+                found = self.result_of(call, words[:-1])
+            if found != words[-1]:
+                raise AssertionError(f"{lines}: {call} {words}: {found}")
+
+    def result_of(self, call: str, words: list[str]) -> str:
+        """Makes a call, and returns the name of its result."""
+        try:
+            return self.made(call, words) or "ok"
+        except RandomAccessError as error:
+            return error.cause.replace("_", "-")
+        except RuntimeError as error:
+            return {"a batch has not ended": "open-batch"}.get(str(error), "wrong-state")
+        except OSError as error:
+            return "no-room" if error.errno in (errno.EFBIG, errno.ENOSPC) else str(error)
+
+    def made(self, call: str, words: list[str]) -> Optional[str]:
+        if call == "begin":
+            batch = self.file.batch()
+            batch.__enter__()
+            self.batches.append(batch)
+        elif call.startswith(("end", "undo")):
+            self.ended = self.batches.pop(0 if "outer" in call else -1) if self.batches else self.ended
+            self.ended.__exit__(ValueError if call.startswith("undo") else None, None, None)
+        elif call == "write":
+            self.file.write_at(int(words[0]), bytes.fromhex(words[1].replace("-", "")))
+        elif call == "truncate":
+            self.file.truncate(int(words[0]))
+        elif call == "contents":
+            return self.file.read_at(0, self.file.size).hex() or "-"
+        elif call == "stored":
+            copied = self.path.with_name(self.path.name + "-copy")
+            for end in ("", ".journal"):
+                pathlib.Path(f"{copied}{end}").unlink(missing_ok=True)
+                if os.path.exists(f"{self.path}{end}"):
+                    shutil.copyfile(f"{self.path}{end}", f"{copied}{end}")
+            return contents(copied).hex() or "-"
+        else:
+            getattr(self.file, call)()
+        return None
+
+
 class Files(unittest.TestCase):
     def setUp(self) -> None:
         self.folder = pathlib.Path(self.enterContext(tempfile.TemporaryDirectory()))
         self.path = self.folder / "file"
 
-    def leave_journal(self, path: pathlib.Path, data: bytes = b"after", limit: int = 65_536) -> None:
-        """Changes the end of a long file, and lets the system stop the commit at this size of files.
-
-        The pages are behind it. The journal is whole, if it is not.
-        """
+    def leave_journal(self, path: pathlib.Path) -> None:
+        """Changes the end of a long file, and lets the system stop the commit there, after it has written its journal."""
         file = RandomAccessFile(path, KEY)
         file.truncate(200_000)
         file.commit()
-        file.write_at(file.size - len(data), data)
-        with limited(limit):
+        file.write_at(file.size - 5, b"after")
+        with limited(65_536):
             self.assertRaises(OSError, file.commit)
         self.assertCause("broken", file.write_at, 0, b"lost")
         file.close()
@@ -181,33 +239,17 @@ class Files(unittest.TestCase):
         del file
         self.assertEqual(contents(self.path), b"first, second")
 
-    def test_a_batch_that_ends_before_one_in_it(self) -> None:
-        with RandomAccessFile.create(self.path, KEY) as file:
-            file.write_at(0, b"kept")
-            with self.assertRaisesRegex(RuntimeError, "has not ended"), file.batch():
-                file.write_at(0, b"lost")
-                inner = file.batch()
-                inner.__enter__()
-            # Both have ended, and are undone.
-            self.assertRaisesRegex(RuntimeError, "has ended", inner.__exit__, None, None, None)
-            self.assertEqual(file.read_at(0, 9), b"kept")
-        self.assertEqual(contents(self.path), b"kept")
-
-    def test_a_batch_that_fails_before_those_in_it_have_ended(self) -> None:
-        with RandomAccessFile.create(self.path, KEY) as file:
-            file.write_at(0, b"before")
-            left_open = []
-            with self.assertRaises(ZeroDivisionError), file.batch():
-                for change in (b"lost", b"lost too"):
-                    left_open.append(file.batch())
-                    left_open[-1].__enter__()
-                    file.write_at(0, change)
-                    file.truncate(3)
-                1 / 0
-            self.assertEqual(file.read_at(0, 99), b"before")
-            for batch in left_open:
-                self.assertRaisesRegex(RuntimeError, "has ended", batch.__exit__, None, None, None)
-        self.assertEqual(contents(self.path), b"before")
+    def test_the_table_of_batches(self) -> None:
+        scenes: list[list[list[str]]] = []
+        for line in TABLE.read_text().splitlines():
+            if line.startswith("["):
+                scenes.append([])
+            elif line and not line.startswith("#"):
+                scenes[-1].append(line.split())
+        self.assertGreater(len(scenes), 20)
+        for number, scene in enumerate(scenes):
+            with self.subTest(number=number):
+                Scene(self.folder / str(number)).play(scene)
 
     def test_signals_in_batches_in_others(self) -> None:
         places = (0, 1000)
@@ -233,29 +275,6 @@ class Files(unittest.TestCase):
                 break
         self.assertGreater(number, 10)
 
-    def test_a_journal_that_is_no_file(self) -> None:
-        journal = self.path.with_name(self.path.name + ".journal")
-        with RandomAccessFile.create(self.path, KEY) as file:
-            file.write_at(0, b"kept")
-            os.mkfifo(journal)
-            self.assertRaises(OSError, file.commit)
-            self.assertTrue(journal.is_fifo())
-            journal.unlink()
-        os.mkfifo(journal)
-        self.assertRaises(OSError, RandomAccessFile, self.path, KEY)
-        journal.unlink()
-        self.assertEqual(contents(self.path), b"kept")
-
-    def test_a_copy_of_a_journal_that_cannot_replace_it(self) -> None:
-        left = pathlib.Path(f"{self.path}.jrncopy")
-        RandomAccessFile.create(self.path, KEY).close()
-        self.leave_journal(self.path)
-        left.mkdir()
-        self.assertRaises(OSError, RandomAccessFile, self.path, KEY)
-        left.rmdir()
-        self.assertEqual(contents(self.path)[-5:], b"after")
-        self.assertFalse(left.exists())
-
     def test_a_journal_of_another_file(self) -> None:
         RandomAccessFile.create(self.path, KEY).close()
         self.leave_journal(self.path)
@@ -269,13 +288,6 @@ class Files(unittest.TestCase):
         (self.folder / "other.journal").write_bytes(journal[:512])
         self.assertEqual(contents(other), b"")
 
-    def test_a_torn_journal(self) -> None:
-        RandomAccessFile.create(self.path, KEY).close()
-        self.leave_journal(self.path, b"after" * 4000, limit=16_384)
-        self.assertEqual((self.folder / "file.journal").stat().st_size, 16_384)
-        self.assertEqual(contents(self.path), bytes(200_000))
-        self.assertEqual(os.listdir(self.folder), ["file"])
-
     def test_a_batch_that_is_left_open(self) -> None:
         with RandomAccessFile.create(self.path, KEY) as file:
             file.write_at(0, b"before")
@@ -287,6 +299,11 @@ class Files(unittest.TestCase):
             self.assertRaisesRegex(RuntimeError, "has not ended", file.commit)
             file.discard()
             self.assertEqual(file.read_at(0, 9), b"before")
+            # Its block goes on, so a change in it would be in no batch.
+            calls = (file.commit, file.batch().__enter__, lambda: file.write_at(0, b"x"), lambda: file.truncate(0))
+            for call in calls:
+                self.assertRaisesRegex(RuntimeError, "batch of this block has ended", call)
+            del batch
             ended = file.batch()
             with ended:
                 file.write_at(0, b"after ")
@@ -298,6 +315,36 @@ class Files(unittest.TestCase):
         self.assertRaisesRegex(RuntimeError, "has not ended", file.close)
         self.assertTrue(file.closed)
         self.assertEqual(contents(self.path), b"after ")
+
+    def test_signals(self) -> None:
+        """A call that a handler's exception comes in is made whole, and an opening leaves no descriptor."""
+
+        def interrupt(*_: object) -> None:
+            raise KeyboardInterrupt
+
+        RandomAccessFile.create(self.path, KEY).close()
+        descriptors, before = len(os.listdir("/proc/self/fd")), b""
+        previous = signal.signal(signal.SIGALRM, interrupt)
+        interrupts = 0
+        try:
+            for turn in range(120):
+                data = bytes([turn % 256]) * 300_000
+                signal.setitimer(signal.ITIMER_REAL, 0.0001 * 1.25 ** (turn % 30))
+                try:
+                    with RandomAccessFile(self.path, KEY) as file:
+                        file.write_at(0, data)
+                except KeyboardInterrupt:
+                    interrupts += 1
+                signal.setitimer(signal.ITIMER_REAL, 0)
+                file = None  # type: ignore[assignment]
+                self.assertIn(contents(self.path), (before, data))
+                before = contents(self.path)
+        finally:
+            signal.setitimer(signal.ITIMER_REAL, 0)
+            signal.signal(signal.SIGALRM, previous)
+        self.assertGreater(interrupts, 10)
+        self.assertLess(interrupts, 120)
+        self.assertEqual(len(os.listdir("/proc/self/fd")), descriptors)
 
     def test_batches_keep_no_file(self) -> None:
         # What earlier tests have left.
@@ -325,19 +372,6 @@ class Files(unittest.TestCase):
             gc.collect()
             self.assertEqual(contents(self.path), b"")
 
-    def test_a_commit_and_a_discard_in_a_batch(self) -> None:
-        with RandomAccessFile.create(self.path, KEY) as file:
-            file.write_at(0, b"committed")
-            file.commit()
-            with self.assertRaisesRegex(RuntimeError, "has not ended"), file.batch():
-                file.write_at(0, b"lost")
-                file.commit()
-            self.assertEqual(file.read_at(0, 20), b"committed")
-            with self.assertRaisesRegex(RuntimeError, "has ended"), file.batch():
-                file.write_at(9, b", lost")
-                file.discard()
-        self.assertEqual(contents(self.path), b"committed")
-
     def test_locks_and_moves(self) -> None:
         file = RandomAccessFile.create(self.path, KEY)
         self.assertCause("locked", RandomAccessFile, self.path, KEY)
@@ -347,13 +381,9 @@ class Files(unittest.TestCase):
         self.path.rename(self.folder / "moved")
         self.assertCause("moved", file.commit)
         (self.folder / "moved").rename(self.path)
-        os.link(self.path, self.folder / "link")
-        self.assertCause("moved", file.commit)
-        (self.folder / "link").unlink()
+        file.commit()
         file.close()
         self.assertEqual(contents(self.path), b"kept")
-        os.link(self.path, self.folder / "link")
-        self.assertCause("moved", RandomAccessFile, self.path, KEY)
 
     def test_another_process(self) -> None:
         file = RandomAccessFile.create(self.path, KEY)
@@ -410,9 +440,12 @@ class Files(unittest.TestCase):
             next(second)
             self.assertRaises(ZeroDivisionError, first.throw, ZeroDivisionError)
             self.assertEqual(file.size, 0)
-            # It was undone with the one that it was in, and what it still writes is in none.
-            self.assertRaisesRegex(RuntimeError, "has ended", next, second)
-            self.assertEqual(file.read_at(0, 99), bytes(12) + b"half")
+            # It was undone with the one that it was in.
+            self.assertRaisesRegex(RuntimeError, "batch of this block has ended", next, second)
+            self.assertEqual(file.size, 0)
+            with file.batch():
+                file.write_at(0, b"after")
+        self.assertEqual(contents(self.path), b"after")
 
     def test_a_close_in_a_process_that_was_forked(self) -> None:
         file = RandomAccessFile.create(self.path, KEY)
@@ -458,15 +491,45 @@ class Files(unittest.TestCase):
 
     def test_arguments(self) -> None:
         with RandomAccessFile.create(self.path, KEY) as file:
-            self.assertRaises(ValueError, file.read_at, -1, 1)
-            self.assertRaises(ValueError, file.read_at, 1, -1)
-            self.assertRaises(ValueError, file.truncate, -1)
-            self.assertRaises(ValueError, file.write_at, -1, b"")
-            self.assertCause("too_long", file.write_at, 1 << 60, b"x")
-            self.assertEqual(file.read_at(1 << 61, 5), b"")
+            file.write_at(0, b"contents")
+            calls: list[Callable[[Any], object]] = [lambda each: file.read_at(each, 1), lambda each: file.read_at(0, each)]
+            calls += [lambda each: file.write_at(each, b""), file.truncate, lambda each: file._read_into(each, bytearray(1))]
+            for call in calls:
+                for wrong in (-1, -(1 << 32) + 4000, -(1 << 63), -(1 << 64)):
+                    self.assertRaises(ValueError, call, wrong)
+                self.assertRaises(OverflowError, call, 1 << 64)
+                self.assertRaises(TypeError, call, 1.0)
+            self.assertEqual((file.read_at((1 << 64) - 1, 5), file.read_at(0, (1 << 64) - 1)), (b"", b"contents"))
+            for place in (1 << 60, (1 << 64) - 1):
+                self.assertCause("too_long", file.write_at, place, b"x")
+            self.assertCause("too_long", file.truncate, (1 << 60) + 1)
         self.assertRaises(ValueError, file.read_at, 0, 1)
-        self.assertRaises(ValueError, RandomAccessFile.create, self.folder / "new", KEY, page_size=255)
-        self.assertEqual(os.listdir(self.folder), ["file"])
+
+    def test_page_sizes_and_variants(self) -> None:
+        wrong = (-(1 << 32) + 4000, -1, 0, 255, 65_537, 1 << 32, (1 << 32) + 4000, (1 << 64) - 1, 1 << 64, (1 << 64) + 4000)
+        for size in wrong:
+            with self.assertRaises((ValueError, OverflowError), msg=str(size)):
+                RandomAccessFile.create(self.path, KEY, page_size=size)
+        for variant in (-1, 6, (1 << 32) + 3, (1 << 64) - 1, 1 << 64, (1 << 64) + 3):
+            cipher = type("Other", (Aegis256,), {"_VARIANT": variant})
+            with self.assertRaises((TypeError, ValueError, OverflowError), msg=str(variant)):
+                RandomAccessFile.create(self.path, KEY, cipher=cipher)
+            with self.assertRaises((TypeError, ValueError, OverflowError), msg=str(variant)):
+                _native.Cipher(variant, KEY, 32)
+        self.assertEqual(os.listdir(self.folder), [])
+        for size in (256, 65_536):
+            RandomAccessFile.create(self.folder / str(size), KEY, page_size=size).close()
+
+    def test_an_empty_write(self) -> None:
+        """It extends the contents, as `truncate` does. The position of a stream is its own, also after a batch that fails."""
+        with RandomAccessFile.create(self.path, KEY) as file:
+            file.write_at(3, b"")
+            self.assertEqual(file.read_at(0, 9), bytes(3))
+            stream = file.open_stream()
+            with contextlib.suppress(ZeroDivisionError), file.batch():
+                stream.write(b"lost")
+                1 / 0
+            self.assertEqual((stream.tell(), file.size), (4, 3))
 
     def test_a_full_disk(self) -> None:
         file = RandomAccessFile.create(self.path, KEY)
@@ -475,24 +538,13 @@ class Files(unittest.TestCase):
             self.assertRaises(OSError, file.commit)
         self.assertEqual(os.listdir(self.folder), ["file"])
         self.assertEqual(file.read_at(0, 9000), bytes(9000))
-        file.close()
+        file.commit()
+        self.assertEqual(file.write_at(0, b"lost"), 4)
+        with limited(0):
+            self.assertRaises(OSError, file.commit)
+        # Closing raises the error once more, and commits nothing.
+        self.assertRaises(OSError, file.close)
         self.assertEqual(contents(self.path), bytes(9000))
-
-    def test_the_journal(self) -> None:
-        """It has the permissions of the file. One that others may write, or that is a link, is left alone."""
-        RandomAccessFile.create(self.path, KEY).close()
-        self.path.chmod(0o640)
-        self.leave_journal(self.path)
-        journal = self.folder / "file.journal"
-        self.assertEqual(journal.stat().st_mode & 0o777, 0o640)
-        journal.chmod(0o666)
-        self.assertRaises(OSError, RandomAccessFile, self.path, KEY)
-        journal.chmod(0o600)
-        journal.rename(self.folder / "elsewhere")
-        journal.symlink_to(self.folder / "elsewhere")
-        self.assertRaises(OSError, RandomAccessFile, self.path, KEY)
-        (self.folder / "elsewhere").rename(journal)
-        self.assertEqual(contents(self.path)[-5:], b"after")
 
     def test_threads(self) -> None:
         def work(number: Any) -> Any:
