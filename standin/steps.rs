@@ -35,7 +35,11 @@ fn step(first: &[u32], number: u64, writes: u64, write: &mut u64) -> u32 {
 ///
 /// `write` points to a number.
 #[unsafe(no_mangle)]
-pub unsafe extern "C" fn hunkravy_proved_commit_step(number: u64, writes: u64, write: *mut u64) -> u32 {
+pub unsafe extern "C" fn hunkravy_proved_commit_step(
+    number: u64,
+    writes: u64,
+    write: *mut u64,
+) -> u32 {
     let first = [WRITE_BEGINNING, SYNC_JOURNAL, WRITE_REST, SYNC_JOURNAL];
     // SAFETY: the caller ensures what is said above.
     step(&first, number, writes, unsafe { &mut *write })
@@ -45,10 +49,19 @@ pub unsafe extern "C" fn hunkravy_proved_commit_step(number: u64, writes: u64, w
 ///
 /// `write` points to a number.
 #[unsafe(no_mangle)]
-pub unsafe extern "C" fn hunkravy_proved_recovery_step(number: u64, writes: u64, write: *mut u64) -> u32 {
+pub unsafe extern "C" fn hunkravy_proved_recovery_step(
+    number: u64,
+    writes: u64,
+    write: *mut u64,
+) -> u32 {
     if writes == 0 {
-        return step_at(&[SYNC_FILE, SYNC_JOURNAL, EMPTY_JOURNAL, SYNC_JOURNAL], number);
+        return step_at(
+            &[SYNC_FILE, SYNC_JOURNAL, EMPTY_JOURNAL, SYNC_JOURNAL],
+            number,
+        );
     }
     // SAFETY: the caller ensures what is said above.
-    step(&[SYNC_FILE, REPLACE_JOURNAL], number, writes, unsafe { &mut *write })
+    step(&[SYNC_FILE, REPLACE_JOURNAL], number, writes, unsafe {
+        &mut *write
+    })
 }
