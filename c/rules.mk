@@ -140,7 +140,7 @@ C_PROGRAMS = $(C_EXAMPLES) $(C_TESTS)
 # The tests of files let allocations and calls of the system fail.
 WRAPS = $$(case $$program in \
 	check_file) printf ' -Wl,--wrap=%s' malloc calloc ;; \
-	check_posix) printf ' -Wl,--wrap=%s' pwrite fsync ftruncate fallocate rename unlink flock fchown ;; esac)
+	check_posix) printf ' -Wl,--wrap=%s' pwrite fsync ftruncate fallocate rename unlink flock ;; esac)
 
 # The archive has the calls of the headers and of journal.h, and no other name that is not local.
 check-c-%: $(OUT)/%/libhunkravy.a
@@ -202,7 +202,7 @@ check-musl-%: $(OUT)/%/libhunkravy.a
 
 # The structs and the functions of the headers are those of c/abi.txt, so no type changes without a new one of these.
 INTERFACE = include() { printf '\#include "%s"\n' $(OWN_HEADERS) | $(CC) -std=c99 -Ic/include "$$@" -x c -; } && \
-	{ include -E -P | sed -n '/^typedef struct hunkravy/,/^}/p'; \
+	{ include -E -P | sed -nE '/^(typedef )?struct hunkravy\w* \{/,/^}/p; /^enum hunkravy.*\}/p'; \
 	include -fsyntax-only -aux-info /dev/stdout | sed -n 's/.* extern \(.*hunkravy_.*\)/\1/p' | LC_ALL=C sort; }
 
 check-abi:

@@ -15,7 +15,6 @@
 #include "hunkravy_file.h"
 
 #include <errno.h>
-#include <sys/wait.h>
 #include <unistd.h>
 
 static const uint8_t key[HUNKRAVY_AEGIS256_KEY_BYTES] = {7, 7, 7};
@@ -731,17 +730,13 @@ static void check_memory(void)
 static void check_system(void)
 {
     static struct model model;
-    char folder[] = "/tmp/check_file-XXXXXX", path[80], other[80];
+    char folder[] = "/tmp/check_file-XXXXXX", path[80];
     hunkravy_file *file, *second;
     uint8_t mac[2][HUNKRAVY_FILE_COMMITMENT_BYTES];
-    uint64_t batch;
     size_t length;
-    int status;
-    pid_t child;
 
     HOLDS(mkdtemp(folder) != NULL);
     snprintf(path, sizeof path, "%s/file", folder);
-    snprintf(other, sizeof other, "%s/other", folder);
     HOLDS(hunkravy_file_open(&file, path, HUNKRAVY_AEGIS256, key, sizeof key) == ENOENT && file == NULL);
     HOLDS(hunkravy_file_create(&file, path, 6, key, sizeof key, 0) == HUNKRAVY_WRONG_VARIANT);
     HOLDS(hunkravy_file_create(&file, path, HUNKRAVY_AEGIS256, key, 16, 0) == HUNKRAVY_WRONG_KEY_LENGTH);
@@ -755,7 +750,6 @@ static void check_system(void)
         HOLDS(code == (file == NULL ? ENOMEM : 0));
     }
     HOLDS(hunkravy_file_create(&second, path, HUNKRAVY_AEGIS256, key, sizeof key, 0) == EEXIST);
-    HOLDS(hunkravy_file_open(&second, path, HUNKRAVY_AEGIS256, key, sizeof key) == HUNKRAVY_FILE_LOCKED);
     for (int i = 0; i < 200; i++) {
         HOLDS(change(file, &model, 12000) == 0);
         HOLDS(draw(20) != 0 || hunkravy_file_commit(file) == 0);
@@ -765,32 +759,12 @@ static void check_system(void)
     HOLDS(hunkravy_file_write(file, UINT64_C(1) << 59, "x", 1) == ENOMEM);
     /* A change has failed, so closing it would commit nothing. */
     HOLDS(hunkravy_file_commit(file) == 0 && hunkravy_file_commitment(file, mac[0]) == 0);
-    HOLDS(rename(path, other) == 0 && hunkravy_file_write(file, 0, "x", 1) == 0);
+    HOLDS(hunkravy_file_write(file, 0, "x", 1) == 0);
     model.bytes[0] = 'x';
-    HOLDS(hunkravy_file_commit(file) == HUNKRAVY_FILE_MOVED && hunkravy_file_check(file) == 0);
-    HOLDS(rename(other, path) == 0 && link(path, other) == 0 && hunkravy_file_commit(file) == HUNKRAVY_FILE_MOVED);
-    HOLDS(unlink(other) == 0);
     check_equal(file, &model);
-    /* In a process that was forked the file is of no use, and closing it there leaves it locked. */
-    child = fork();
-    HOLDS(child >= 0);
-    if (child == 0) {
-        int is_right = hunkravy_file_check(file) == HUNKRAVY_FILE_LOCKED &&
-            hunkravy_file_commit(file) == HUNKRAVY_FILE_LOCKED &&
-            hunkravy_file_begin(file, &batch) == HUNKRAVY_FILE_LOCKED &&
-            hunkravy_file_read(file, 0, mac[1], 1, &length) == HUNKRAVY_FILE_LOCKED &&
-            hunkravy_file_close(file) == HUNKRAVY_OK &&
-            hunkravy_file_open(&file, path, HUNKRAVY_AEGIS256, key, sizeof key) == HUNKRAVY_FILE_LOCKED;
-        _exit(is_right ? 0 : 1);
-    }
-    HOLDS(waitpid(child, &status, 0) == child && status == 0);
     HOLDS(hunkravy_file_commit(file) == 0 && hunkravy_file_commitment(file, mac[1]) == 0);
     HOLDS(memcmp(mac[0], mac[1], sizeof mac[0]) != 0);
-    HOLDS(hunkravy_file_begin(file, &batch) == 0 && hunkravy_file_close(file) == HUNKRAVY_OPEN_BATCH);
-    HOLDS(hunkravy_file_open(&file, path, HUNKRAVY_AEGIS256, key, sizeof key) == 0);
-    check_equal(file, &model);
-    HOLDS(hunkravy_file_write(file, UINT64_MAX, "x", 1) == HUNKRAVY_FILE_TOO_LONG);
-    HOLDS(hunkravy_file_write(file, 0, "y", 1) == 0 && hunkravy_file_close(file) == HUNKRAVY_FILE_TOO_LONG);
+    HOLDS(hunkravy_file_close(file) == 0);
     HOLDS(truncate(path, 5000) == 0 && hunkravy_file_open(&file, path, HUNKRAVY_AEGIS256, key, sizeof key) == 0);
     HOLDS(hunkravy_file_read(file, 0, model.bytes, 5, &length) == HUNKRAVY_DAMAGED_PAGE && length == 0);
     HOLDS(hunkravy_file_damaged_page(file) == 0 && hunkravy_file_close(file) == 0);

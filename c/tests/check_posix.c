@@ -53,7 +53,6 @@ static int is_made(void)
 
 /* What another program does before a file is locked or synced. A result that is not 0 is an error number. */
 static int (*meanwhile)(void);
-static int refuses_owners;
 
 static int is_let(void)
 {
@@ -66,12 +65,6 @@ static int is_let(void)
 WRAPPED(int, flock, (int fd, int operation))
 {
     return is_let() ? __real_flock(fd, operation) : -1;
-}
-
-WRAPPED(int, fchown, (int fd, uid_t user, gid_t group))
-{
-    errno = EPERM;
-    return refuses_owners && user != (uid_t)-1 ? -1 : __real_fchown(fd, user, group);
 }
 
 static ino_t number_of(const char *path)
@@ -325,28 +318,6 @@ static void check_creations(void)
     node_count = 0;
 }
 
-/* The journal of a user who cannot give it to the owner of the file has no more rights than the file. */
-static void check_modes(void)
-{
-    static const mode_t modes[][2] = {{0660, 0660}, {0666, 0666}, {0644, 0644}, {0600, 0600}, {0606, 0600}};
-    hunkravy_file *file;
-    struct stat found;
-    for (size_t i = 0; i < COUNT(modes); i++) {
-        for (refuses_owners = 0; refuses_owners < 2; refuses_owners++) {
-            HOLDS(hunkravy_file_create(&file, paths[0], HUNKRAVY_AEGIS256, key, sizeof key, 0) == 0);
-            HOLDS(chmod(paths[0], modes[i][0]) == 0 && hunkravy_file_write(file, 0, "x", 1) == 0);
-            /* The sync of the file fails, so the journal is left. */
-            syncs_left = 4;
-            HOLDS(hunkravy_file_commit(file) == EIO && hunkravy_file_close(file) == HUNKRAVY_FILE_BROKEN);
-            HOLDS(stat(paths[1], &found) == 0 && (found.st_mode & 0777) == modes[i][1]);
-            HOLDS(__real_unlink(paths[0]) == 0 && __real_unlink(paths[1]) == 0);
-            syncs_left = ALL;
-            node_count = 0;
-        }
-    }
-    refuses_owners = 0;
-}
-
 int main(int argc, char **argv)
 {
     char folder[] = "/tmp/check_posix-XXXXXX";
@@ -362,7 +333,6 @@ int main(int argc, char **argv)
         snprintf(paths[i], sizeof paths[i], "%s/file%s", folder, ends[i]);
     }
     check_creations();
-    check_modes();
     HOLDS(hunkravy_file_create(&file, paths[0], HUNKRAVY_AEGIS256, key, sizeof key, 0) == 0);
     HOLDS(hunkravy_file_close(file) == 0 && set_texts('a', ALL, ALL));
     for (int turn = 0; turn < turns; turn++) {

@@ -521,36 +521,35 @@ PyType_Spec batch_spec = {"hunkravy._native.Batch", sizeof(Batch), 0, TYPE_FLAGS
 static PyMethodDef file_methods[] = {
     {"create", (PyCFunction)(void (*)(void))file_create, METH_CLASS | METH_VARARGS | METH_KEYWORDS,
         "create($type, path, key, *, cipher=Aegis256, check_same_thread=True, page_size=None)\n--\n\n"
-        "Creates an empty file at a path where there is none, and opens it. `page_size` is from 256 to 65,536 bytes "
-        "of\n"
-        "contents. A page of the default size fills a block of 4,096 bytes."},
+        "Creates an empty file at a path where there is none, and opens it. `page_size` is from 256 to 65,536\n"
+        "bytes of contents. A page of the default size fills a block of 4,096 bytes."},
     {"read_at", file_read_at, METH_VARARGS,
         "read_at($self, offset, length, /)\n--\n\n"
         "Returns the bytes of the contents from `offset` on: `length`, or fewer at the end of the contents."},
     {"_read_into", file_read_into, METH_VARARGS, NULL},
     {"write_at", file_write_at, METH_VARARGS,
         "write_at($self, offset, data, /)\n--\n\n"
-        "Writes the data over the contents from `offset` on, and returns their length. Zeros fill a gap in front. "
-        "After an\n"
-        "exception nothing has changed, unless it is one of `commit`."},
+        "Writes the data over the contents from `offset` on, and returns their length. Zeros fill a gap in\n"
+        "front, also if there are no data. After an exception nothing has changed, unless it is one of a\n"
+        "commit."},
     {"truncate", file_truncate, METH_O,
         "truncate($self, size, /)\n--\n\n"
-        "Truncates the contents to `size` bytes, or extends them with zeros, and returns `size`. The file itself does "
-        "not\n"
-        "become shorter."},
+        "Truncates the contents to `size` bytes, or extends them with zeros, and returns `size`. The file\n"
+        "itself does not become shorter."},
     {"commit", file_commit, METH_NOARGS,
         "commit($self, /)\n--\n\n"
-        "Writes all changes, so that after a crash all of them are there, or none. On return they are. If the journal\n"
-        "cannot be made, or there is no room for longer contents, they are still in memory. After an exception of "
-        "writing\n"
-        "the file is broken: open it again, which gives the contents before the changes or after them."},
+        "Writes all changes, so that after a crash all of them are there, or none. On return they are. After\n"
+        "an exception they are still in memory, unless each later call raises \"broken\": then open the file\n"
+        "again, which gives the contents before the changes or after them. In a batch it raises\n"
+        "`RuntimeError`, and changes nothing."},
     {"discard", file_discard, METH_NOARGS,
-        "discard($self, /)\n--\n\nDiscards all changes since the last commit, and ends each batch."},
+        "discard($self, /)\n--\n\n"
+        "Discards all changes since the last commit, and ends each batch."},
     {"close", file_close, METH_NOARGS,
         "close($self, /)\n--\n\n"
-        "Commits the changes, and closes the file. In another process than the one that opened it, it only closes it. "
-        "In\n"
-        "a batch that has not ended it discards the changes, and raises `RuntimeError`."},
+        "Commits the changes, and closes the file in any case. Commits nothing in a process that did not open\n"
+        "the file; in a batch, with a `RuntimeError`; and after a change or a commit that has failed, whose\n"
+        "exception it raises once more."},
     {"__enter__", file_enter, METH_NOARGS, NULL},
     {"__exit__", file_exit, METH_VARARGS, NULL},
     {NULL, NULL, 0, NULL},

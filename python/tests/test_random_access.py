@@ -6,16 +6,12 @@ What a crash leaves, and owners, names and locks, are tested in c/tests, over th
 import concurrent.futures
 import contextlib
 import copy
-import dis
 import errno
 import fcntl
-import functools
 import gc
 import io
-import itertools
 import os
 import pathlib
-import random
 import resource
 import shutil
 import signal
@@ -28,7 +24,7 @@ import zipfile
 from collections.abc import Callable, Generator
 from typing import Any, Optional
 
-from hunkravy import Aegis128L, Aegis128X4, Aegis256, RandomAccessError, RandomAccessFile, _native, _random_access
+from hunkravy import Aegis128L, Aegis256, RandomAccessError, RandomAccessFile, _native, _random_access
 
 KEY = bytes(range(32))
 TABLE = pathlib.Path(__file__).parents[2] / "testkit" / "batches.txt"
@@ -44,47 +40,6 @@ def limited(size: int) -> Generator[None, None, None]:
         yield
     finally:
         resource.setrlimit(resource.RLIMIT_FSIZE, before)
-
-
-@functools.cache
-def places_after_calls(code: Any) -> set[int]:
-    """The offsets in a function after which Python calls handlers."""
-    found = list(dis.get_instructions(code))
-    return {after.offset for call, after in zip(found, found[1:]) if call.opname.startswith("CALL")}
-
-
-def interrupted_at(number: int, call: Callable[[], object], *files: str) -> bool:
-    """Makes a call, and raises KeyboardInterrupt in it where Python calls the handler of a signal: at the start of a function
-    and after a call, in these files, at the place of this number. Returns whether there is one.
-    """
-    seen = 0
-
-    def at_a_place() -> None:
-        nonlocal seen
-        seen += 1
-        if seen == number:
-            sys.settrace(None)
-            raise KeyboardInterrupt
-
-    def trace(frame: Any, event: str, argument: Any) -> Any:
-        code = frame.f_code
-        if not code.co_filename.endswith(files):
-            return None
-        frame.f_trace_lines, frame.f_trace_opcodes = False, True
-        if event == "call":
-            at_a_place()
-        elif event == "opcode" and frame.f_lasti in places_after_calls(code):
-            at_a_place()
-        return trace
-
-    sys.settrace(trace)
-    try:
-        call()
-    except KeyboardInterrupt:
-        pass
-    finally:
-        sys.settrace(None)
-    return seen >= number
 
 
 def contents(path: Any, key: bytes = KEY) -> Any:
@@ -173,37 +128,6 @@ class Files(unittest.TestCase):
         self.assertEqual(raised.exception.cause, cause)
         self.assertEqual(str(raised.exception), _random_access.CAUSES[cause].format(raised.exception.page))
 
-    def test_random_calls(self) -> None:
-        for variant, page_size in ((Aegis256, None), (Aegis128L, 256), (Aegis128X4, None)):
-            with self.subTest(variant=variant.name):
-                self.path = self.folder / variant.name
-                key = os.urandom(variant.KEY_BYTES)
-                self.check_calls(variant, key, page_size, random.Random(7))
-
-    def check_calls(self, variant: Any, key: Any, page_size: Any, numbers: Any) -> Any:
-        model = bytearray()
-        file = RandomAccessFile.create(self.path, key, cipher=variant, page_size=page_size)
-        for _ in range(400):
-            kind, place = numbers.randrange(8), numbers.randrange(20_000)
-            if kind < 4:
-                data = numbers.randbytes(numbers.randrange(3000))
-                self.assertEqual(file.write_at(place, data), len(data))
-                if data or place > len(model):
-                    model.extend(bytes(max(place - len(model), 0)))
-                    model[place : place + len(data)] = data
-            elif kind == 4:
-                file.truncate(place)
-                model[place:] = bytes(max(place - len(model), 0))
-            elif kind == 5:
-                file.commit()
-            elif kind == 6:
-                file.close()
-                file = RandomAccessFile(self.path, key, cipher=variant)
-            place, length = numbers.randrange(25_000), numbers.randrange(5000)
-            self.assertEqual(file.size, len(model))
-            self.assertEqual(file.read_at(place, length), model[place : place + length])
-        file.close()
-
     def test_a_path_in_bytes(self) -> None:
         RandomAccessFile.create(os.fsencode(self.path), KEY).close()  # type: ignore[arg-type]
         self.assertEqual(contents(self.path), b"")
@@ -250,30 +174,6 @@ class Files(unittest.TestCase):
         for number, scene in enumerate(scenes):
             with self.subTest(number=number):
                 Scene(self.folder / str(number)).play(scene)
-
-    def test_signals_in_batches_in_others(self) -> None:
-        places = (0, 1000)
-
-        def change(file: RandomAccessFile) -> None:
-            with file.batch():
-                for place in places:
-                    with file.batch():
-                        file.write_at(place, b"after.")
-
-        for number in itertools.count(1):
-            path = self.path.with_name(str(number))
-            file = RandomAccessFile.create(path, KEY, page_size=PAGE)
-            with file.batch():
-                for place in places:
-                    file.write_at(place, b"before")
-            was_interrupted = interrupted_at(number, lambda: change(file), "test_random_access.py", "_random_access.py")
-            self.assertFalse(file._is_in_batch)
-            file.close()
-            with RandomAccessFile(path, KEY) as file:
-                self.assertEqual(len({file.read_at(place, 6) for place in places}), 1, number)
-            if not was_interrupted:
-                break
-        self.assertGreater(number, 10)
 
     def test_a_journal_of_another_file(self) -> None:
         RandomAccessFile.create(self.path, KEY).close()
@@ -385,22 +285,6 @@ class Files(unittest.TestCase):
         file.close()
         self.assertEqual(contents(self.path), b"kept")
 
-    def test_another_process(self) -> None:
-        file = RandomAccessFile.create(self.path, KEY)
-        file.write_at(0, b"of the parent")
-        child = os.fork()
-        if child == 0:
-            try:
-                file.read_at(0, 1)
-            except RandomAccessError as error:
-                file.close()
-                os._exit(0 if error.cause == "locked" else 1)
-            os._exit(2)
-        self.assertEqual(os.waitpid(child, 0)[1], 0)
-        self.assertCause("locked", RandomAccessFile, self.path, KEY)
-        file.close()
-        self.assertEqual(contents(self.path), b"of the parent")
-
     def test_a_fork_while_another_thread_is_in_a_batch(self) -> None:
         def hold() -> None:
             with file.batch():
@@ -446,20 +330,6 @@ class Files(unittest.TestCase):
             with file.batch():
                 file.write_at(0, b"after")
         self.assertEqual(contents(self.path), b"after")
-
-    def test_a_close_in_a_process_that_was_forked(self) -> None:
-        file = RandomAccessFile.create(self.path, KEY)
-        reader, writer = os.pipe()
-        child = os.fork()
-        if child == 0:
-            os.close(writer)
-            os.read(reader, 1)
-            os._exit(0)
-        file.close()
-        RandomAccessFile(self.path, KEY).close()
-        os.close(writer)
-        os.close(reader)
-        self.assertEqual(os.waitpid(child, 0)[1], 0)
 
     def test_a_file_that_is_being_created(self) -> None:
         """Whoever has just created it locks it next, and must not find it locked."""
@@ -594,7 +464,8 @@ class Files(unittest.TestCase):
             with zipfile.ZipFile(file.open_stream()) as archive:
                 self.assertEqual(archive.read("member"), member)
             with file.open_stream() as stream:
-                self.assertEqual((stream.seek(-3, os.SEEK_END), stream.read(9), stream.tell()), (file.size - 3, stream_end(file), file.size))
+                expected = (file.size - 3, file.read_at(file.size - 3, 3), file.size)
+                self.assertEqual((stream.seek(-3, os.SEEK_END), stream.read(9), stream.tell()), expected)
                 self.assertRaises(OSError, stream.seek, -1)
                 self.assertEqual((stream.seek(0), stream.read(0), stream.readinto(bytearray())), (0, b"", 0))
                 self.assertRaises(TypeError, stream.readinto, b"")
@@ -608,10 +479,6 @@ class Files(unittest.TestCase):
         with RandomAccessFile.create(self.path, KEY) as file:
             for each in (file, file.open_stream()):
                 self.assertRaises(TypeError, copy.copy, each)
-
-
-def stream_end(file: Any) -> Any:
-    return file.read_at(file.size - 3, 3)
 
 
 if __name__ == "__main__":
