@@ -246,26 +246,38 @@ static int find_journal(const struct posix *posix, struct stat *found, int *is_t
     return is_file(found) && is_as_safe(found, &of) ? 0 : EINVAL;
 }
 
-/* Opens the journal if it has any bytes. */
-static int open_journal(struct posix *posix)
+/* Opens the journal that was found. */
+static int open_found(struct posix *posix, const struct stat *found)
 {
-    struct stat found, own;
-    int is_there = 0;
-    if (posix->journal < 0) {
-        TRY(find_journal(posix, &found, &is_there));
-    }
-    if (!is_there) {
-        return 0;
-    }
+    struct stat own;
     posix->journal = open(posix->journal_path, O_RDWR | O_NOFOLLOW | O_NONBLOCK | O_CLOEXEC);
     if (posix->journal < 0) {
         return errno;
     }
-    if (look(posix->journal, &own) != 0 || !is_same(&own, &found)) {
+    if (look(posix->journal, &own) != 0 || !is_same(&own, found)) {
         close(posix->journal);
         posix->journal = -1;
         return EINVAL;
     }
+    return 0;
+}
+
+/* Opens the journal if it has any bytes. */
+static int open_journal(struct posix *posix)
+{
+    struct stat found;
+    int is_there = 0;
+    if (posix->journal < 0) {
+        TRY(find_journal(posix, &found, &is_there));
+    }
+    return is_there ? open_found(posix, &found) : 0;
+}
+
+/* Finds an empty journal. */
+static int find_empty(const struct posix *posix, struct stat *found, int *is_there)
+{
+    TRY(find(posix->journal_path, found, is_there));
+    *is_there = *is_there && is_file(found) && found->st_size == 0;
     return 0;
 }
 
@@ -274,8 +286,8 @@ static int remove_empty(const struct posix *posix)
 {
     struct stat found;
     int is_there;
-    TRY(find(posix->journal_path, &found, &is_there));
-    return is_there && is_file(&found) && found.st_size == 0 && unlink(posix->journal_path) != 0 ? errno : 0;
+    TRY(find_empty(posix, &found, &is_there));
+    return is_there && unlink(posix->journal_path) != 0 ? errno : 0;
 }
 
 /*
@@ -351,13 +363,31 @@ static int system_replace(void *context, const uint8_t *bytes, size_t length)
     return sync_folder(posix);
 }
 
+/* Empties an empty journal once more: if an earlier sync of it has failed, the disk may have all of its bytes. */
+static int empty_again(struct posix *posix)
+{
+    struct stat found;
+    int is_there;
+    TRY(find_empty(posix, &found, &is_there));
+    if (!is_there) {
+        return 0;
+    }
+    if (open_found(posix, &found) != 0) {
+        TRY(remove_empty(posix));
+        return sync_folder(posix);
+    }
+    return ftruncate(posix->journal, 0) == 0 ? 0 : errno;
+}
+
 /* Syncs the journal and its name. If it is empty it is then removed, if it can be. */
 static int sync_journal(struct posix *posix)
 {
     struct stat own, found;
     int is_there;
     if (posix->journal < 0) {
-        (void)remove_empty(posix);
+        TRY(empty_again(posix));
+    }
+    if (posix->journal < 0) {
         return 0;
     }
     TRY(sync_fd(posix->journal));

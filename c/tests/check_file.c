@@ -77,7 +77,7 @@ struct part {
 /* Calls are left until it stops, and syncs until one fails. */
 struct disk {
     struct part part[2];
-    int calls_left, syncs_left, is_locked, is_full;
+    int calls_left, syncs_left, failing_syncs, is_locked, is_full;
 };
 
 static int is_stopped(struct disk *disk)
@@ -135,6 +135,7 @@ static void crash(struct disk *disk)
     }
     disk->is_locked = 0;
     disk->calls_left = disk->syncs_left = ALL;
+    disk->failing_syncs = 1;
 }
 
 static int disk_read(void *context, enum hunkravy_part which, uint64_t place, uint8_t *bytes, size_t length)
@@ -196,7 +197,8 @@ static int disk_sync(void *context, enum hunkravy_part which)
     if (is_stopped(disk)) {
         return STOPPED;
     }
-    fails = disk->syncs_left-- == 0;
+    fails = disk->syncs_left <= 0 && disk->syncs_left > -disk->failing_syncs;
+    disk->syncs_left--;
     store(&disk->part[which], !fails);
     return fails ? EIO : 0;
 }
@@ -389,8 +391,28 @@ static void check_calls(uint32_t variant, uint32_t page_size)
 
 static unsigned long states, changed_states;
 
+/* Opens a file whose contents are those before or after a change. Returns which, or -1 if the opening is stopped. */
+static int open_left(struct disk *disk, const struct model *before, const struct model *after)
+{
+    static uint8_t found[MOST_CONTENTS + 1];
+    struct hunkravy_storage storage = over(disk);
+    hunkravy_file *file;
+    size_t length = 0;
+    int is_after;
+
+    if (hunkravy_file_open_in(&file, &storage, HUNKRAVY_AEGIS256, key, sizeof key) != 0) {
+        return -1;
+    }
+    HOLDS(disk->part[HUNKRAVY_PART_JOURNAL].length == 0 && disk->part[HUNKRAVY_PART_JOURNAL].stored_length == 0);
+    HOLDS(hunkravy_file_read(file, 0, found, sizeof found, &length) == 0);
+    is_after = length == after->length && memcmp(found, after->bytes, length) == 0;
+    HOLDS(is_after || (before != NULL && length == before->length && memcmp(found, before->bytes, length) == 0));
+    HOLDS(hunkravy_file_close(file) == 0);
+    return is_after;
+}
+
 /*
- * Opens what a crash has left, and stops that by turns. The contents are then those before, or after.
+ * Opens what a crash has left, and stops that by turns. What an opening has found is certain.
  *
  * Two steps of a recovery are there for other storages, and no test here sees them. It begins with a sync of the file: but
  * `forget` has synced it, and beside a journal a file has no other pending writes than those of that journal. And it syncs
@@ -399,41 +421,25 @@ static unsigned long states, changed_states;
 static void check_left(const struct disk *left, const struct model *before, const struct model *after)
 {
     static struct disk disk;
-    static uint8_t found[MOST_CONTENTS + 1];
-    struct hunkravy_storage storage = over(&disk);
-    hunkravy_file *file;
-    size_t length = 0;
-    int is_after;
+    int seen = -1, is_last = 0;
 
     disk = *left;
-    /* The power fails, or only the program ends: then what a sync has not stored can be read. */
-    if (draw(4) != 0) {
-        crash(&disk);
-    }
-    disk.is_locked = 0;
-    disk.calls_left = disk.syncs_left = ALL;
-    states++;
-    /* The opening is stopped a few times, and each time the power fails. */
-    while (draw(3) != 0) {
-        disk.calls_left = (int)draw(14);
-        disk.syncs_left = draw(4) == 0 ? (int)draw(8) : ALL;
-        if (hunkravy_file_open_in(&file, &storage, HUNKRAVY_AEGIS256, key, sizeof key) == 0) {
-            hunkravy_file_discard(file);
-            HOLDS(hunkravy_file_close(file) == 0);
-        }
+    while (!is_last) {
+        int found;
+        /* The power fails, or only the program ends: then what a sync has not stored can be read. */
         if (draw(4) != 0) {
             crash(&disk);
             states++;
         }
-        disk.calls_left = disk.syncs_left = ALL;
+        is_last = draw(3) == 0;
+        disk.is_locked = 0;
+        disk.calls_left = is_last ? ALL : (int)draw(14);
+        disk.syncs_left = is_last || draw(4) != 0 ? ALL : (int)draw(8);
+        found = open_left(&disk, before, after);
+        HOLDS(found < 0 ? !is_last : seen < 0 || found == seen);
+        seen = found < 0 ? seen : found;
     }
-    HOLDS(hunkravy_file_open_in(&file, &storage, HUNKRAVY_AEGIS256, key, sizeof key) == 0);
-    HOLDS(disk.part[HUNKRAVY_PART_JOURNAL].length == 0 && disk.part[HUNKRAVY_PART_JOURNAL].stored_length == 0);
-    HOLDS(hunkravy_file_read(file, 0, found, sizeof found, &length) == 0);
-    is_after = length == after->length && memcmp(found, after->bytes, length) == 0;
-    HOLDS(is_after || (before != NULL && length == before->length && memcmp(found, before->bytes, length) == 0));
-    changed_states += (unsigned long)is_after;
-    HOLDS(hunkravy_file_close(file) == 0);
+    changed_states += (unsigned long)seen;
 }
 
 /* Commits a random change to a copy of a disk, which stops after so many calls, or at a sync that fails. */
@@ -457,10 +463,12 @@ static int commit_once(
     drawn ^= kept | 1;
     disk.calls_left = calls;
     disk.syncs_left = syncs;
+    disk.failing_syncs = 1 + (int)draw(2);
     code = hunkravy_file_commit(file);
     HOLDS(code == 0 || code == STOPPED || code == EIO);
-    /* An error of the first syncs, those of the journal, is no reason to open the file again. */
-    HOLDS(calls != ALL || code == 0 || (hunkravy_file_check(file) == HUNKRAVY_OK) == (syncs < 2));
+    /* An error of the first syncs, those of the journal, is no reason to open the file again, unless another follows. */
+    HOLDS(calls != ALL || code == 0 ||
+        (hunkravy_file_check(file) == HUNKRAVY_OK) == (syncs < 2 && disk.failing_syncs == 1));
     if (code != 0 && hunkravy_file_check(file) == HUNKRAVY_OK) {
         check_equal(file, after);
         if (calls == ALL && draw(2)) {

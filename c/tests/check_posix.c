@@ -39,7 +39,7 @@ static size_t node_count;
 /* The paths of the file, its journal and the copy of that, and the numbers that the disk has for them, or 0. */
 static char paths[NAMES][100];
 static ino_t names[NAMES];
-static int calls_left = ALL, syncs_left = ALL;
+static int calls_left = ALL, syncs_left = ALL, failing_syncs = 1;
 
 static int is_made(void)
 {
@@ -94,11 +94,12 @@ static struct node *node_at(int fd)
     return node_of(found.st_ino);
 }
 
-/* Stores what was written to a file: all of it, or each sector and the length by chance. */
+/* Stores what was written to a file: all of it, or by chance all, nothing, or some sectors, with one length or the other. */
 static void store(struct node *node, int fd, int is_all)
 {
     static unsigned char now[MOST_STORED];
     ssize_t length = pread(fd, now, sizeof now, 0);
+    int habit = is_all ? 0 : rand() % 3;
 
     HOLDS(length >= 0);
     if (is_all || rand() % 2 == 0) {
@@ -109,9 +110,9 @@ static void store(struct node *node, int fd, int is_all)
         size_t end = node->dirty[i].place + node->dirty[i].length;
         for (size_t at = node->dirty[i].place, next; at < end; at = next) {
             next = (at / 512 + 1) * 512 < end ? (at / 512 + 1) * 512 : end;
-            if (is_all || rand() % 3 == 0) {
+            if (habit == 0 || (habit == 1 && rand() % 3 == 0)) {
                 memcpy(node->bytes + at, now + at, next - at);
-            } else if (rand() % 4 == 0) {
+            } else if (habit == 1 && rand() % 4 == 0) {
                 memset(node->bytes + at, rand(), next - at);
             }
         }
@@ -135,7 +136,7 @@ WRAPPED(ssize_t, pwrite, (int fd, const void *bytes, size_t length, off_t place)
 WRAPPED(int, fsync, (int fd))
 {
     struct stat found;
-    int is_right = is_let() && is_made() && syncs_left-- != 0;
+    int left = syncs_left--, is_right = is_let() && is_made() && (left > 0 || left <= -failing_syncs);
     HOLDS(fstat(fd, &found) == 0);
     if (S_ISDIR(found.st_mode)) {
         for (int i = 0; is_right && i < NAMES; i++) {
@@ -158,13 +159,28 @@ WRAPPED(int, fallocate, (int fd, int mode, off_t place, off_t length))
     return is_made() ? __real_fallocate(fd, mode, place, length) : -1;
 }
 
+/* Keeps a file that loses its name: until the folder is synced the disk may have it, so no other one gets its number. */
+static int kept[MOST_NODES];
+static size_t kept_count;
+
+static void keep(const char *path)
+{
+    int fd = open(path, O_RDONLY);
+    if (fd >= 0) {
+        HOLDS(kept_count < MOST_NODES);
+        kept[kept_count++] = fd;
+    }
+}
+
 WRAPPED(int, rename, (const char *from, const char *to))
 {
+    keep(to);
     return is_made() ? __real_rename(from, to) : -1;
 }
 
 WRAPPED(int, unlink, (const char *path))
 {
+    keep(path);
     return is_made() ? __real_unlink(path) : -1;
 }
 
@@ -190,6 +206,9 @@ static void crash(void)
         memcpy(bytes[i], node == NULL ? bytes[i] : node->bytes, lengths[i]);
     }
     node_count = 0;
+    while (kept_count > 0) {
+        close(kept[--kept_count]);
+    }
     for (int i = 0; i < NAMES; i++) {
         (void)__real_unlink(paths[i]);
     }
@@ -336,8 +355,9 @@ int main(int argc, char **argv)
     HOLDS(hunkravy_file_create(&file, paths[0], HUNKRAVY_AEGIS256, key, sizeof key, 0) == 0);
     HOLDS(hunkravy_file_close(file) == 0 && set_texts('a', ALL, ALL));
     for (int turn = 0; turn < turns; turn++) {
-        int letter = letter_of_texts(), next = letter == 'a' ? 'b' : 'a', found;
-        int made = set_texts(next, rand() % 24, rand() % 16);
+        int letter = letter_of_texts(), next = letter == 'a' ? 'b' : 'a', seen = 0, found, made;
+        failing_syncs = 1 + rand() % 2;
+        made = set_texts(next, rand() % 2 == 0 ? rand() % 24 : ALL, rand() % 9);
         for (int more = rand() % 3; more > 0; more--) {
             if (rand() % 2 == 0) {
                 crash();
@@ -348,6 +368,8 @@ int main(int argc, char **argv)
             found = open_texts(&file);
             if (found > 0) {
                 HOLDS(found == next || (!made && found == letter));
+                HOLDS(seen == 0 || found == seen);
+                seen = found;
                 (void)!hunkravy_file_close(file);
             }
         }
@@ -356,6 +378,8 @@ int main(int argc, char **argv)
         found = letter_of_texts();
         changed += found == next;
         HOLDS(found == next || (!made && found == letter));
+        /* What an opening has found is certain. */
+        HOLDS(seen == 0 || found == seen);
     }
     HOLDS(changed > turns / 10 && changed < turns);
     printf("random-access files of the system: %lu checks, %d crashes, %d with the change\n", checks, crashes, changed);
