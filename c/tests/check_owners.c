@@ -371,7 +371,7 @@ static void check_unread_folder(void)
 /* Makes the folder a small disk, which is there for this process alone. */
 static int make_disk(void)
 {
-    return is_root() && unshare(CLONE_NEWNS) == 0 && mount(NULL, "/", NULL, MS_REC | MS_PRIVATE, NULL) == 0 &&
+    return is_root() && unshare(CLONE_NEWNS) == 0 && mount("none", "/", "none", MS_REC | MS_PRIVATE, NULL) == 0 &&
         mount("tmpfs", folder, "tmpfs", 0, "size=1m") == 0;
 }
 
