@@ -167,8 +167,8 @@ struct hunkravy_storage {
     int (*resize)(void *context, enum hunkravy_part part, uint64_t size);
     /* Returns once everything that was written survives a loss of power. */
     int (*sync)(void *context, enum hunkravy_part part);
-    /* Makes `bytes` those of the journal, such that a crash leaves the old ones or these, and syncs them. If null, they are
-     * written over the journal. */
+    /* Makes `bytes` those of the journal, so that a crash leaves the old ones or these, and syncs them. May be null if all
+     * that can be read after a `sync` that has failed is stored by the next one. */
     int (*replace)(void *context, const uint8_t *bytes, size_t length);
     /* Makes reads return what would survive a loss of power now, also after a sync that failed. May be null. */
     int (*forget)(void *context, enum hunkravy_part part);

@@ -356,15 +356,17 @@ int main(int argc, char **argv)
     HOLDS(hunkravy_file_close(file) == 0 && set_texts('a', ALL, ALL));
     for (int turn = 0; turn < turns; turn++) {
         int letter = letter_of_texts(), next = letter == 'a' ? 'b' : 'a', seen = 0, found, made;
-        failing_syncs = 1 + rand() % 2;
-        made = set_texts(next, rand() % 2 == 0 ? rand() % 24 : ALL, rand() % 9);
-        for (int more = rand() % 3; more > 0; more--) {
-            if (rand() % 2 == 0) {
+        /* By turns the last sync of the journal and the next one, of the journal that is emptied, fail, and the file is opened. */
+        int are_last = turn % 8 == 0;
+        failing_syncs = are_last ? 2 : 1 + rand() % 2;
+        made = set_texts(next, are_last || rand() % 2 ? ALL : rand() % 24, are_last ? 3 : rand() % 9);
+        for (int more = are_last ? 1 : rand() % 3; more > 0; more--) {
+            if (!are_last && rand() % 2 == 0) {
                 crash();
                 crashes++;
             }
-            calls_left = rand() % 24;
-            syncs_left = rand() % 4 == 0 ? rand() % 8 : ALL;
+            calls_left = are_last ? ALL : rand() % 24;
+            syncs_left = are_last || rand() % 4 != 0 ? ALL : rand() % 8;
             found = open_texts(&file);
             if (found > 0) {
                 HOLDS(found == next || (!made && found == letter));
