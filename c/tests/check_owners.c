@@ -35,16 +35,14 @@ static int open_at(const char *at, hunkravy_file **file)
 
 static int has_result(int code, const char *name)
 {
-    int is_code = code == 0              ? strcmp(name, "ok") == 0 || strcmp(name, "trusted") == 0
-        : code == EINVAL                 ? strcmp(name, "rejected") == 0
-        : code == HUNKRAVY_FILE_MOVED    ? strcmp(name, "moved") == 0
-        : code == HUNKRAVY_FILE_LOCKED   ? strcmp(name, "locked") == 0
-        : code == HUNKRAVY_WRONG_JOURNAL ? strcmp(name, "wrong-journal") == 0
-                                         : code > 0 && strcmp(name, "failed") == 0;
-    if (!is_code) {
-        fprintf(stderr, "code %d, not %s\n", code, name);
-    }
-    return is_code;
+    const char *found = code == 0        ? "ok"
+        : code == EINVAL                 ? "rejected"
+        : code == HUNKRAVY_FILE_MOVED    ? "moved"
+        : code == HUNKRAVY_FILE_LOCKED   ? "locked"
+        : code == HUNKRAVY_WRONG_JOURNAL ? "wrong-journal"
+        : code > 0                       ? "failed"
+                                         : "another code";
+    return strcmp(found, strcmp(name, "trusted") == 0 ? "ok" : name) == 0;
 }
 
 static void remove_all(void)
@@ -236,11 +234,7 @@ static void check_name(char **words)
         sizes[i] = size_at(paths[i]);
     }
     code = is_open ? hunkravy_file_commit(file) : open_at(opened, &file);
-    if (!has_result(code, words[2])) {
-        fprintf(stderr, "of %s\n", name);
-        HOLDS(!"what the table has");
-    }
-    HOLDS(code == 0 || sum_of(fd) == sum);
+    HOLDS(has_result(code, words[2]) && (code == 0 || sum_of(fd) == sum));
     /* The journal and its copy are used, and nothing else. */
     for (size_t i = 1; i < COUNT(paths); i++) {
         HOLDS(size_at(paths[i]) == (code == 0 && i < 3 ? -2 : sizes[i]));
@@ -262,40 +256,32 @@ static int opens(char **words)
     return has_result(open_at(path, &file), words[2]) ? 0 : 1;
 }
 
-/* The lock is that of the system's `flock`, which `raf` of the Rust package takes too. */
-static int waits_and_opens(char **words)
-{
-    char byte;
-    int fd = open(path, O_RDWR), is_free;
-    HOLDS(read(atoi(words[3]), &byte, 1) == 1);
-    is_free = flock(fd, LOCK_EX | LOCK_NB) == 0;
-    HOLDS(is_free == (strcmp(words[2], "ok") == 0) && close(fd) == 0);
-    return opens(words);
-}
-
 static int uses_and_closes(char **words)
 {
     size_t length;
     uint8_t byte;
-    return has_result(hunkravy_file_read(held, 0, &byte, 1, &length), words[2]) &&
-            has_result(hunkravy_file_write(held, 0, "x", 1), words[2]) &&
-            has_result(hunkravy_file_commit(held), words[2]) && hunkravy_file_close(held) == 0
-        ? 0
-        : 1;
+    int is_right = has_result(hunkravy_file_read(held, 0, &byte, 1, &length), words[2]) &&
+        has_result(hunkravy_file_write(held, 0, "x", 1), words[2]) &&
+        has_result(hunkravy_file_commit(held), words[2]) && hunkravy_file_close(held) == 0;
+    return is_right ? 0 : 1;
 }
 
-/* Another process, which is older than the opening. */
+/*
+ * Another process, which is older than the opening, opens the file once it is held, or was closed. The lock is that of the
+ * system's `flock`, which `raf` of the Rust package takes too.
+ */
 static void check_other_process(char **words, int is_closed)
 {
-    char number[12];
-    int ends[2], status;
+    int ends[2], status, fd;
+    char byte;
     pid_t child;
     HOLDS(hunkravy_file_close(held) == 0 && pipe(ends) == 0);
-    snprintf(number, sizeof number, "%d", ends[0]);
-    words[3] = number;
     child = fork();
     if (child == 0) {
-        _exit(waits_and_opens(words));
+        HOLDS(read(ends[0], &byte, 1) == 1);
+        fd = open(path, O_RDWR);
+        HOLDS((flock(fd, LOCK_EX | LOCK_NB) == 0) == is_closed && close(fd) == 0);
+        _exit(opens(words));
     }
     HOLDS(child > 0 && open_at(path, &held) == 0);
     if (is_closed) {
@@ -304,27 +290,25 @@ static void check_other_process(char **words, int is_closed)
     }
     HOLDS(write(ends[1], "x", 1) == 1 && waitpid(child, &status, 0) == child && status == 0);
     HOLDS(close(ends[0]) == 0 && close(ends[1]) == 0);
-}
-
-/* Another program has locked the file by `flock`. */
-static void check_foreign_lock(void)
-{
-    int fd = open(path, O_RDWR);
-    hunkravy_file *file;
-    HOLDS(flock(fd, LOCK_EX) == 0 && open_at(path, &file) == HUNKRAVY_FILE_LOCKED && close(fd) == 0);
-    HOLDS(open_at(path, &file) == 0 && hunkravy_file_close(file) == 0);
+    /* And a file that another program has locked so is not opened. */
+    fd = open(path, O_RDWR);
+    if (is_closed) {
+        hunkravy_file *file;
+        HOLDS(flock(fd, LOCK_EX) == 0 && open_at(path, &file) == HUNKRAVY_FILE_LOCKED);
+    }
+    HOLDS(close(fd) == 0);
 }
 
 static void check_lock(char **words)
 {
     const char *name = words[1];
+    char *child[] = {words[0], words[1], (char *)"locked"};
+    hunkravy_file *file;
     make_file();
-    check_foreign_lock();
     HOLDS(open_at(path, &held) == 0);
     if (strcmp(name, "same-process") == 0) {
         HOLDS(opens(words) == 0);
     } else if (strcmp(name, "same-process-link") == 0) {
-        hunkravy_file *file;
         HOLDS(symlink(path, other) == 0 && has_result(open_at(other, &file), words[2]));
     } else if (strcmp(name, "other-process") == 0 || strcmp(name, "closed-other-process") == 0) {
         check_other_process(words, name[0] == 'c');
@@ -333,7 +317,6 @@ static void check_lock(char **words)
     } else if (strcmp(name, "forked-child-uses") == 0) {
         HOLDS(in_child(uses_and_closes, words) == 0);
     } else if (strcmp(name, "parent-after-child") == 0) {
-        char *child[] = {words[0], words[1], (char *)"locked"};
         HOLDS(in_child(uses_and_closes, child) == 0 && in_child(opens, child) == 0);
         HOLDS(hunkravy_file_write(held, 0, "x", 1) == 0 && has_result(hunkravy_file_commit(held), words[2]));
     } else {
@@ -437,10 +420,39 @@ static void check_full_disk(void)
 /* Whether only root can try a row. */
 static int needs_root(char **words)
 {
-    return (strcmp(words[0], "made") == 0 && strcmp(words[2], "other") == 0) ||
-        (strcmp(words[0], "owner") == 0 &&
+    return strcmp(words[0], "made") == 0 ? strcmp(words[2], "other") == 0
+                                         : strcmp(words[0], "owner") == 0 &&
             (strcmp(words[2], "1000") != 0 || strcmp(words[3], "100") != 0 || strcmp(words[5], "1000") != 0 ||
-                strcmp(words[6], "100") != 0));
+                strcmp(words[6], "100") != 0);
+}
+
+static void check_row(char **words, unsigned *left_out)
+{
+    if (!is_root() && needs_root(words)) {
+        ++*left_out;
+    } else if (strcmp(words[0], "folder") == 0) {
+        HOLDS(chmod(folder, mode_of(words[1])) == 0);
+    } else if (strcmp(words[0], "owner") == 0) {
+        check_owner(words);
+    } else if (strcmp(words[0], "made") == 0) {
+        HOLDS(chmod(folder, 0777) == 0);
+        check_made(words);
+    } else if (strcmp(words[0], "name") == 0) {
+        check_name(words);
+    } else {
+        HOLDS(strcmp(words[0], "lock") == 0);
+        check_lock(words);
+    }
+}
+
+/* Names the row if the program ends at it. */
+static int row;
+
+static void name_row(void)
+{
+    if (row > 0) {
+        fprintf(stderr, "testkit/owners.txt:%d: another result\n", row);
+    }
 }
 
 int main(void)
@@ -449,7 +461,7 @@ int main(void)
     char line[200], *words[MOST_FIELDS];
     unsigned rows = 0, left_out = 0;
 
-    HOLDS(table != NULL && mkdtemp(folder) != NULL);
+    HOLDS(table != NULL && mkdtemp(folder) != NULL && atexit(name_row) == 0);
     for (size_t i = 0; i < COUNT(paths); i++) {
         static const char *const names[] = {"file", "file.journal", "file.jrncopy", "other", "other.journal"};
         snprintf(paths[i], sizeof path, "%s/%s", folder, names[i]);
@@ -457,28 +469,14 @@ int main(void)
     check_full_disk();
     check_unread_folder();
     while (fgets(line, sizeof line, table) != NULL) {
-        size_t count = line[0] == '#' ? 0 : split(line, words);
-        if (count == 0) {
-            continue;
-        }
-        rows++;
-        if (!is_root() && needs_root(words)) {
-            left_out++;
-        } else if (strcmp(words[0], "folder") == 0) {
-            HOLDS(chmod(folder, mode_of(words[1])) == 0);
-        } else if (strcmp(words[0], "owner") == 0) {
-            check_owner(words);
-        } else if (strcmp(words[0], "made") == 0) {
-            HOLDS(chmod(folder, 0777) == 0);
-            check_made(words);
-        } else if (strcmp(words[0], "name") == 0) {
-            check_name(words);
-        } else {
-            HOLDS(strcmp(words[0], "lock") == 0);
-            check_lock(words);
+        row++;
+        if (line[0] != '#' && split(line, words) > 0) {
+            rows++;
+            check_row(words, &left_out);
         }
     }
     remove_all();
+    row = 0;
     HOLDS(fclose(table) == 0 && rmdir(folder) == 0 && rows > 100);
     if (left_out != 0) {
         printf("left out: %u rows on other users, since only root can give files away\n", left_out);
