@@ -14,16 +14,16 @@
  * commit that was interrupted, or discards all of it. `raf` in Rust, RandomAccessFile in Python and the proved crate
  * `aegis_pages` read and write the same files. RANDOM-ACCESS.md has the format, and the model of a crash.
  *
- * BATCHES. A batch makes several changes one, with one meaning in C, Python and Rust:
+ * BATCHES. A batch combines several changes into one. It means the same in C, Python and Rust:
  *
  * - Beginning a batch commits nothing. Changes that were pending stay pending, and the outermost batch commits them too.
- * - In a batch nothing is committed: a write past the limit is not, and hunkravy_file_commit changes nothing and returns
- *   HUNKRAVY_OPEN_BATCH. All changes stay in memory.
+ * - In a batch nothing is committed, and all changes stay in memory. hunkravy_file_commit changes nothing, and returns
+ *   HUNKRAVY_OPEN_BATCH.
  * - A change that fails changes nothing, and the batch goes on. To leave out the whole batch, undo it.
  * - Ending a batch in another one keeps its changes in the outer one. Ending the outermost batch commits. If that commit
- *   fails before it writes to the file, for example because the disk is full, the batch is undone. What was pending when
- *   it began is pending again.
- * - Undoing a batch goes back to its beginning, and ends each batch in it. Ending a batch in which another is open
+ *   fails before it writes to the file, for example because the disk is full, the batch is undone. Changes that were
+ *   pending when it began are pending again.
+ * - Undoing a batch goes back to its beginning, and ends each batch in it. Ending a batch in which another one is open
  *   undoes both, and returns HUNKRAVY_OPEN_BATCH.
  * - hunkravy_file_discard goes back to the last commit, and ends each batch.
  * - hunkravy_file_close in a batch commits nothing, frees the file, and returns HUNKRAVY_OPEN_BATCH.
@@ -41,7 +41,7 @@
  *   that opened it.
  * - HUNKRAVY_FILE_MOVED: the file was renamed, removed or replaced, or has several hard links: its journal would not be
  *   found.
- * - HUNKRAVY_FILE_BROKEN: an earlier commit failed after it had begun to write to the file. Open the file again.
+ * - HUNKRAVY_FILE_BROKEN: an earlier commit has failed, and may be in the file in part. Open the file again.
  * - HUNKRAVY_OPEN_BATCH: a batch has not ended.
  *
  * THREADS. Use a file from one thread at a time. Exception: hunkravy_file_check may be called from any.
@@ -163,9 +163,9 @@ struct hunkravy_storage {
     int (*write)(void *context, enum hunkravy_part part, uint64_t place, const uint8_t *bytes, size_t length);
     /* How many bytes it has. A journal that does not exist has none. */
     int (*size)(void *context, enum hunkravy_part part, uint64_t *size);
-    /* Empties the part, or makes it longer. Called with 0 alone. */
+    /* Sets the length. Called only to empty the journal. */
     int (*resize)(void *context, enum hunkravy_part part, uint64_t size);
-    /* Returns once everything that was written survives a loss of power. */
+    /* Returns HUNKRAVY_OK once everything that was written survives a loss of power. */
     int (*sync)(void *context, enum hunkravy_part part);
     /* Makes `bytes` those of the journal, so that a crash leaves the old ones or these, and syncs them. May be null if all
      * that can be read after a `sync` that has failed is stored by the next one. */
@@ -185,11 +185,11 @@ struct hunkravy_storage {
     void (*close)(void *context);
 };
 
-/* As hunkravy_file_create, in an empty storage. It is closed with the file, and after an error. */
+/* Like hunkravy_file_create, in an empty storage. It is closed with the file, and after an error. */
 HUNKRAVY_MUST_USE int hunkravy_file_create_in(hunkravy_file **file, const struct hunkravy_storage *storage,
     uint32_t variant, const uint8_t *k, size_t klen, uint32_t page_size) HUNKRAVY_NONNULL(1, 2);
 
-/* As hunkravy_file_open, in a storage. It is closed with the file, and after an error. */
+/* Like hunkravy_file_open, in a storage. It is closed with the file, and after an error. */
 HUNKRAVY_MUST_USE int hunkravy_file_open_in(hunkravy_file **file, const struct hunkravy_storage *storage,
     uint32_t variant, const uint8_t *k, size_t klen) HUNKRAVY_NONNULL(1, 2);
 
