@@ -23,8 +23,11 @@ OWN_HEADERS = hunkravy.h hunkravy_records.h hunkravy_pages.h hunkravy_file.h
 HEADERS = $(OWN_HEADERS) hunkravy_sodium.h
 C_EXAMPLES = $(basename $(notdir $(sort $(wildcard c/examples/*.c))))
 
-# The names that the library exports: the calls that its headers declare.
-EXPORTS = sed -nE 's/^(HUNKRAVY_MUST_USE )?(int|size_t|uint32_t|uint64_t|void|const char) \*?(hunkravy_[a-z0-9_]*)\(.*/\3/p' $(OWN_HEADERS:%=c/include/%)
+# The names that headers declare. The library exports those of its headers, and those of journal.h for the Rust package, which
+# the shared library has under a version of their own.
+NAMES = sed -nE 's/^(HUNKRAVY_MUST_USE )?(int|size_t|uint32_t|uint64_t|void|const char) \*?(hunkravy_[a-z0-9_]*)\(.*/\3/p'
+EXPORTS = $(NAMES) $(OWN_HEADERS:%=c/include/%)
+PRIVATE = $(NAMES) c/library/journal.h
 
 # ---- The library
 
@@ -44,11 +47,12 @@ $(OUT)/%/libhunkravy.a: $(OUT)/%/aegis_c.a $(CALLS)
 	LEVEL=$(patsubst x86-64-v%,%,$(filter x86-64-v%,$*)) CC=$(TOOLS_$*)gcc AR=$(TOOLS_$*)ar \
 		OBJCOPY=$(TOOLS_$*)objcopy c/levels/join.sh $@ $<
 
-# The shared library, which exports the calls alone.
+# The shared library, which exports these alone.
 SONAME = libhunkravy.so.0
 
-$(OUT)/%/$(SONAME): $(OUT)/%/libhunkravy.a $(OWN_HEADERS:%=c/include/%) c/rules.mk
-	(echo 'HUNKRAVY_0 { global:'; $(EXPORTS) | sed 's/$$/;/'; echo 'local: *; };') > $(@D)/exports.map
+$(OUT)/%/$(SONAME): $(OUT)/%/libhunkravy.a $(OWN_HEADERS:%=c/include/%) c/library/journal.h c/rules.mk
+	(echo 'HUNKRAVY_0 { global:'; $(EXPORTS) | sed 's/$$/;/'; echo 'local: *; };'; \
+		echo 'HUNKRAVY_PRIVATE { global:'; $(PRIVATE) | sed 's/$$/;/'; echo '};') > $(@D)/exports.map
 	$(TOOLS_$*)$(CC) -shared -s -Wl,-soname,$(SONAME),--version-script=$(@D)/exports.map,-z,defs,-z,relro,-z,now \
 		-Wl,--whole-archive $< -Wl,--no-whole-archive -o $@
 
@@ -113,7 +117,9 @@ check-header:
 		for header in $(HEADERS); do \
 			echo "#include \"$$header\"" | $(CLANG) -std=c99 $(C_FLAGS) -Weverything -fsyntax-only -x c - || exit 1; \
 		done; \
-		for file in c/library/*.c; do $(CLANG) -std=c99 $(C_FLAGS) -Weverything -fsyntax-only $$file || exit 1; done; \
+		for file in c/library/*.c c/file/*.c; do \
+			$(CLANG) -std=c99 $(C_FLAGS) -Ic/library -Weverything -fsyntax-only $$file || exit 1; \
+		done; \
 	else \
 		echo 'left out: the headers by clang, which is not installed'; \
 	fi
@@ -134,11 +140,11 @@ C_PROGRAMS = $(C_EXAMPLES) $(C_TESTS)
 # The tests of files let allocations and calls of the system fail.
 WRAPS = $$(case $$program in \
 	check_file) printf ' -Wl,--wrap=%s' malloc calloc ;; \
-	check_posix) printf ' -Wl,--wrap=%s' pwrite fsync ftruncate fallocate rename unlink flock fchown ;; esac)
+	check_posix) printf ' -Wl,--wrap=%s' pwrite fsync ftruncate fallocate rename unlink flock ;; esac)
 
-# The archive has the calls of the headers, and no other name that is not local.
+# The archive has the calls of the headers and of journal.h, and no other name that is not local.
 check-c-%: $(OUT)/%/libhunkravy.a
-	diff <($(EXPORTS) | sort) <($(TOOLS_$*)nm --defined-only -g $< | awk 'NF == 3 { print $$3 }' | sort)
+	diff <(($(EXPORTS); $(PRIVATE)) | sort) <($(TOOLS_$*)nm --defined-only -g $< | awk 'NF == 3 { print $$3 }' | sort)
 	for program in $(C_PROGRAMS); do \
 		$(TOOLS_$*)$(CC) -std=c99 $(C_FLAGS) -O2 c/[et]*/$$program.c $< $(WRAPS) -o $(OUT)/$*/$$program && \
 		LEVEL=$(if $(filter both,$*),,$(or $(patsubst x86-64-v%,%,$(filter x86%,$*)),0)) \
@@ -174,9 +180,9 @@ check-rebuilt: $(OUT)/both/libhunkravy.a $(OUT)/both/$(SONAME)
 	done
 	! $(MAKE) -q -W c/rules.mk $(lastword $^)
 
-# The tests over the shared library, which exports the calls of the headers and nothing else.
+# The tests over the shared library, which exports the calls of the headers, and those of journal.h under their own version.
 check-shared: $(OUT)/both/$(SONAME)
-	diff <($(EXPORTS) | sed 's/$$/@@HUNKRAVY_0/' | sort) <(nm -D --defined-only $< | awk '$$2 == "T" { print $$3 }' | sort)
+	diff <(($(EXPORTS) | sed 's/$$/@@HUNKRAVY_0/'; $(PRIVATE) | sed 's/$$/@@HUNKRAVY_PRIVATE/') | sort) <(nm -D --defined-only $< | awk '$$2 == "T" { print $$3 }' | sort)
 	for program in $(C_TESTS); do \
 		$(CC) -std=c99 $(C_FLAGS) -O2 c/tests/$$program.c $< -Wl,-rpath,"$(CURDIR)/$(<D)" -o $(<D)/$$program-shared && \
 		$(<D)/$$program-shared $(STORED_LINES) || exit 1; \
@@ -196,7 +202,7 @@ check-musl-%: $(OUT)/%/libhunkravy.a
 
 # The structs and the functions of the headers are those of c/abi.txt, so no type changes without a new one of these.
 INTERFACE = include() { printf '\#include "%s"\n' $(OWN_HEADERS) | $(CC) -std=c99 -Ic/include "$$@" -x c -; } && \
-	{ include -E -P | sed -n '/^typedef struct hunkravy/,/^}/p'; \
+	{ include -E -P | sed -nE '/^(typedef )?struct hunkravy\w* \{/,/^}/p; /^enum hunkravy.*\}/p'; \
 	include -fsyntax-only -aux-info /dev/stdout | sed -n 's/.* extern \(.*hunkravy_.*\)/\1/p' | LC_ALL=C sort; }
 
 check-abi:
@@ -210,9 +216,9 @@ abi:
 check-level: $(OUT)/both/libhunkravy.a $(OUT)/both/$(SONAME)
 	tools/check_level.sh $^ $(STORED_LINES)
 
-# The tests as C++, which call what the headers have. Exception: those of files.
+# The tests as C++, which call what the headers have. Exceptions: those of files, and of journal.h, which is for C.
 check-c++: $(OUT)/both/libhunkravy.a
-	for program in $(filter-out check_file check_posix,$(C_TESTS)); do \
+	for program in $(filter-out check_file check_journals check_posix check_owners,$(C_TESTS)); do \
 		$(CC) -std=c++11 $(C_FLAGS) -O2 -x c++ c/tests/$$program.c -x none $< -o $(OUT)/both/$$program++ && \
 		$(OUT)/both/$$program++ $(STORED_LINES) || exit 1; \
 	done

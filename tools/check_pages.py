@@ -26,6 +26,7 @@ ROOT = pathlib.Path(".")
 SKIPPED = {"out", ".git", "target"}
 PAGES = [page for page in sorted(ROOT.glob("**/*.md")) if not SKIPPED & set(page.parts)]
 SOURCES = sorted(ROOT.glob("crates/*/src/**/*.rt"))
+HEADERS = [*sorted(ROOT.glob("c/include/*.h")), ROOT / "c/library/journal.h"]
 # The pages that have to show something in a language.
 SHOWN = {"README.md": "rs c python", "docs/RATTLE.md": "rust", "python/README.md": "python"}
 
@@ -123,7 +124,7 @@ def strange_contracts():
     contracts = {}
     for function in (function for path in SOURCES for function in mutants.functions(path)):
         contracts.setdefault(function.name, set()).update(mutants.names_in(function.contract))
-    in_c = set(re.findall(r"hunkravy(_\w+)\(", joined(sorted(ROOT.glob("c/include/*.h")))))
+    in_c = set(re.findall(r"hunkravy(_\w+)\(", joined(HEADERS)))
     sources = joined(SOURCES)
     others = set(re.findall(r"\b(?:struct|enum|trait|type|mod|derive\() ?(\w+)|impl(?:<.*?>)? (\w+)", sources))
     named = in_c.union(contracts, {path.parts[1] for path in SOURCES}, *others)
@@ -173,7 +174,7 @@ def numbers():
         rows = {name: list(map(int, numbers.split("|"))) for name, numbers in lines}
         for name in ("AEGIS-128L", "AEGIS-256"):
             ratios += [peer / own for peer, own in zip(rows[f"libsodium {name}, AES instructions"], rows[name])]
-    text = "".join(read(path) for path in sorted(ROOT.glob("c/include/*.h")))
+    text = "".join(map(read, HEADERS))
     found = {name: int(value) for name, value in re.findall(r"^#define HUNKRAVY_(\w+) (\d+)$", text, re.M)}
     block = found["PAGE_FIRST"] - found["PAGE_TAG_BYTES"]
     found |= {"most_contents": block - found["AEGIS256_NONCE_BYTES"], "contents": block - found["AEGIS128_NONCE_BYTES"]}

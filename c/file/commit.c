@@ -1,5 +1,6 @@
 /* Opening, committing, recovering and closing a file. */
 #include "engine.h"
+#include "journal.h"
 
 #include <errno.h>
 #include <stdlib.h>
@@ -10,13 +11,11 @@ enum {
     START_BYTES = HUNKRAVY_JOURNAL_START_BYTES,
     NONCE_BYTES = HUNKRAVY_JOURNAL_NONCE_BYTES,
     HEAD_BYTES = HUNKRAVY_JOURNAL_HEAD_BYTES,
-    /* Of the beginning of a journal: the mark and the variant. */
-    COMMON_BYTES = 5,
     /* How many bytes are written in one call, and read. One longer write is a call of its own. */
     GATHERED_BYTES = 256 * 1024,
     READ_BYTES = 64 * 1024,
     DEFAULT_LIMIT = 16 << 20,
-    /* A journal that does not begin as those of its file is read if it has no more bytes: it may be no journal. */
+    /* A longer journal is read only if it begins as those of the file, or, without a header, as any: it may be no journal. */
     MOST_FOREIGN_BYTES = 64 << 20
 };
 
@@ -33,15 +32,16 @@ struct work {
     const struct hunkravy_storage *storage;
     const struct write *writes;
     uint64_t count;
-    /* Of a commit: the beginning of the journal, and its MAC so far. Of a recovery: the journal. */
-    uint8_t start[START_BYTES];
-    hunkravy_state state;
+    /* Of a recovery: the journal. Of a commit: its start, and its MAC so far. */
     const uint8_t *journal;
     size_t journal_bytes;
-    enum hunkravy_part part;
+    hunkravy_state state;
+    uint8_t *buffer;
     uint64_t place;
     size_t gathered;
-    uint8_t *buffer;
+    enum hunkravy_part part;
+    /* Whether a write to the file was tried. */
+    int has_written;
 };
 
 static int flush(struct work *work)
@@ -74,7 +74,7 @@ static int write_rest(struct work *work)
 {
     uint8_t head[HEAD_BYTES], mac[HUNKRAVY_JOURNAL_MAC_BYTES];
     uint64_t place = START_BYTES;
-    TRY(gather(work, HUNKRAVY_PART_JOURNAL, BEGINNING_BYTES, work->start + BEGINNING_BYTES, NONCE_BYTES));
+    TRY(gather(work, HUNKRAVY_PART_JOURNAL, BEGINNING_BYTES, work->journal + BEGINNING_BYTES, NONCE_BYTES));
     for (uint64_t i = 0; i < work->count; i++) {
         const struct write *write = &work->writes[i];
         TRY(hunkravy_journal_entry(&work->state, write->place, write->bytes, write->length, head));
@@ -87,45 +87,58 @@ static int write_rest(struct work *work)
     return flush(work);
 }
 
-static int do_step(struct work *work, enum step step, uint64_t number)
+static int do_step(struct work *work, uint32_t step, uint64_t number)
 {
     const struct hunkravy_storage *storage = work->storage;
-    const struct write *write = &work->writes[number];
+    const struct write *write;
     switch (step) {
-    case WRITE_BEGINNING:
-        return storage->write(storage->context, HUNKRAVY_PART_JOURNAL, 0, work->start, BEGINNING_BYTES);
-    case WRITE_REST:
+    case HUNKRAVY_STEP_WRITE_BEGINNING:
+        return storage->write(storage->context, HUNKRAVY_PART_JOURNAL, 0, work->journal, BEGINNING_BYTES);
+    case HUNKRAVY_STEP_WRITE_REST:
         return write_rest(work);
-    case SYNC_JOURNAL:
+    case HUNKRAVY_STEP_SYNC_JOURNAL:
         return storage->sync(storage->context, HUNKRAVY_PART_JOURNAL);
-    case MAKE_WRITE:
-        return gather(work, HUNKRAVY_PART_FILE, write->place, write->bytes, write->length);
-    case SYNC_FILE:
-        return storage->sync(storage->context, HUNKRAVY_PART_FILE);
-    case REPLACE_JOURNAL:
+    case HUNKRAVY_STEP_REPLACE_JOURNAL:
         return storage->replace == NULL ? HUNKRAVY_OK
                                         : storage->replace(storage->context, work->journal, work->journal_bytes);
-    case EMPTY_JOURNAL:
+    case HUNKRAVY_STEP_MAKE_WRITE:
+        work->has_written = 1;
+        write = &work->writes[number];
+        return gather(work, HUNKRAVY_PART_FILE, write->place, write->bytes, write->length);
+    case HUNKRAVY_STEP_SYNC_FILE:
+        return storage->sync(storage->context, HUNKRAVY_PART_FILE);
+    case HUNKRAVY_STEP_EMPTY_JOURNAL:
         return storage->resize(storage->context, HUNKRAVY_PART_JOURNAL, 0);
+    default:
+        return EINVAL;
     }
-    return EINVAL;
 }
 
 /* Takes steps until there are no more, or one fails. No memory is taken. */
-static int take_steps(struct work *work, int (*next)(uint64_t, uint64_t, enum step *, uint64_t *))
+static int take_steps(struct work *work, uint32_t (*step_of)(uint64_t, uint64_t, uint64_t *))
 {
-    enum step step = SYNC_FILE;
     uint64_t write = 0;
-    for (uint64_t number = 0; next(number, work->count, &step, &write); number++) {
-        if (step != MAKE_WRITE) {
+    for (uint64_t number = 0;; number++) {
+        uint32_t step = step_of(number, work->count, &write);
+        if (step != HUNKRAVY_STEP_MAKE_WRITE) {
             TRY(flush(work));
+        }
+        if (step == HUNKRAVY_STEP_DONE) {
+            return HUNKRAVY_OK;
         }
         TRY(do_step(work, step, write));
     }
-    return HUNKRAVY_OK;
 }
 
 /* ---- Commits */
+
+struct commit {
+    struct work work;
+    /* The changed pages by their numbers, and how many of them are encrypted. */
+    struct page **pages;
+    uint64_t sealed;
+    uint8_t old_header[BLOCK_BYTES], new_header[BLOCK_BYTES], start[START_BYTES];
+};
 
 /* Draws random bytes for nonces. The reserved nonce is of commitments and of the keys of journals. */
 static int draw(const hunkravy_file *file, uint8_t *bytes, size_t length)
@@ -144,36 +157,52 @@ static int compare(const void *one, const void *other)
     return (*first)->number < (*second)->number ? -1 : (*first)->number > (*second)->number;
 }
 
-/* Decrypts pages that were encrypted for a commit which writes nothing. */
-static void unseal(hunkravy_file *file, struct page **pages, uint64_t count)
+/* Finds the changed pages, and their writes between those of the headers. Returns where the last page ends. */
+static uint64_t find_writes(const hunkravy_file *file, struct commit *commit, struct write *writes)
 {
+    uint64_t count = 0;
+    for (size_t i = 0; i < file->bucket_count; i++) {
+        for (struct page *page = file->buckets[i]; page != NULL; page = page->next) {
+            commit->pages[count++] = page;
+        }
+    }
+    qsort(commit->pages, (size_t)count, sizeof *commit->pages, compare);
+    writes[0] = (struct write){0, commit->old_header, BLOCK_BYTES};
     for (uint64_t i = 0; i < count; i++) {
-        if (hunkravy_page_open(file->variant, pages[i]->bytes, file->page_bytes, file->id, pages[i]->number, file->key,
-                file->key_bytes) != HUNKRAVY_OK) {
+        uint64_t place = hunkravy_page_place(file->variant, file->page_size, commit->pages[i]->number);
+        writes[i + 1] = (struct write){place, commit->pages[i]->bytes, file->page_bytes};
+    }
+    writes[count + 1] = (struct write){0, commit->new_header, BLOCK_BYTES};
+    return count == 0 ? 0 : writes[count].place + writes[count].length;
+}
+
+/* Decrypts the pages of a commit that is left out. */
+static void unseal(hunkravy_file *file, const struct commit *commit)
+{
+    for (uint64_t i = 0; i < commit->sealed; i++) {
+        if (hunkravy_page_open(file->variant, commit->pages[i]->bytes, file->page_bytes, file->id,
+                commit->pages[i]->number, file->key, file->key_bytes) != HUNKRAVY_OK) {
             file->is_broken = 1;
         }
     }
 }
 
-/*
- * Encrypts the changed pages where they are, and the next header. The buffer is for their nonces. `*sealed` becomes how many
- * pages it has encrypted.
- */
-static int seal(const hunkravy_file *file, struct page **pages, uint8_t *buffer, uint64_t *sealed, uint8_t *header)
+/* Encrypts the changed pages where they are, and the next header. The buffer is for their nonces. */
+static int seal(const hunkravy_file *file, struct commit *commit)
 {
     uint64_t at_once = GATHERED_BYTES / file->key_bytes;
-    for (*sealed = 0;; ++*sealed) {
-        uint64_t at = *sealed % at_once, left = file->changed + 1 - *sealed;
-        const uint8_t *nonce = buffer + at * file->key_bytes;
+    for (commit->sealed = 0;; commit->sealed++) {
+        uint64_t at = commit->sealed % at_once, left = file->changed + 1 - commit->sealed;
+        uint8_t *nonce = commit->work.buffer + at * file->key_bytes;
         if (at == 0) {
-            TRY(draw(file, buffer, (size_t)(left < at_once ? left : at_once) * file->key_bytes));
+            TRY(draw(file, nonce, (size_t)(left < at_once ? left : at_once) * file->key_bytes));
         }
         if (left == 1) {
-            return hunkravy_page_header_seal(file->variant, header, file->page_size, file->id, file->counter + 1,
-                file->size, nonce, file->key_bytes, file->key, file->key_bytes);
+            return hunkravy_page_header_seal(file->variant, commit->new_header, file->page_size, file->id,
+                file->counter + 1, file->size, nonce, file->key_bytes, file->key, file->key_bytes);
         }
-        TRY(hunkravy_page_seal(file->variant, pages[*sealed]->bytes, file->page_bytes, file->id, pages[*sealed]->number,
-            nonce, file->key_bytes, file->key, file->key_bytes));
+        TRY(hunkravy_page_seal(file->variant, commit->pages[commit->sealed]->bytes, file->page_bytes, file->id,
+            commit->pages[commit->sealed]->number, nonce, file->key_bytes, file->key, file->key_bytes));
     }
 }
 
@@ -187,8 +216,8 @@ static int read_block(const hunkravy_file *file, uint8_t *block, size_t *length)
                         : file->storage.read(file->storage.context, HUNKRAVY_PART_FILE, 0, block, *length);
 }
 
-/* Checks that the writes can be made, and that an interrupted commit would be completed. */
-static int prepare_storage(hunkravy_file *file, uint64_t end)
+/* Checks that the writes can be made, up to `end`, and that an interrupted commit would be completed. */
+static int prepare_storage(const hunkravy_file *file, uint64_t end)
 {
     const struct hunkravy_storage *storage = &file->storage;
     uint64_t old = hunkravy_file_page_count(file, file->stored), size = 0;
@@ -199,105 +228,83 @@ static int prepare_storage(hunkravy_file *file, uint64_t end)
     return size == 0 ? HUNKRAVY_OK : HUNKRAVY_WRONG_JOURNAL;
 }
 
-/* Commits the changes. The memory is for so many writes, the pages by their numbers, and the buffer. */
-static int commit_in(hunkravy_file *file, struct write *writes, struct page **pages, uint8_t *buffer)
+/* Does all of a commit that comes before its steps. */
+static int prepare(const hunkravy_file *file, struct commit *commit, uint64_t end)
 {
-    struct work work = {.storage = &file->storage, .writes = writes, .count = file->changed + 2, .buffer = buffer};
-    uint8_t old[BLOCK_BYTES], next[BLOCK_BYTES], nonce[NONCE_BYTES];
-    uint64_t count = 0, sealed = 0, end = 0;
-    size_t length = 0;
-    for (size_t i = 0; i < file->bucket_count; i++) {
-        for (struct page *page = file->buckets[i]; page != NULL; page = page->next) {
-            pages[count++] = page;
-        }
+    uint8_t nonce[NONCE_BYTES];
+    size_t length;
+    TRY(read_block(file, commit->old_header, &length));
+    if (length < BLOCK_BYTES) {
+        return HUNKRAVY_NO_FILE;
     }
-    qsort(pages, (size_t)count, sizeof *pages, compare);
-    writes[0] = (struct write){0, old, sizeof old};
-    for (uint64_t i = 0; i < count; i++) {
-        uint64_t place = hunkravy_page_place(file->variant, file->page_size, pages[i]->number);
-        writes[i + 1] = (struct write){place, pages[i]->bytes, file->page_bytes};
-        end = place + file->page_bytes;
-    }
-    writes[count + 1] = (struct write){0, next, sizeof next};
-    int code = read_block(file, old, &length);
-    if (code == HUNKRAVY_OK && length < BLOCK_BYTES) {
-        code = HUNKRAVY_NO_FILE;
-    }
-    if (code == HUNKRAVY_OK) {
-        code = seal(file, pages, buffer, &sealed, next);
-    }
-    if (code == HUNKRAVY_OK) {
-        code = draw(file, nonce, sizeof nonce);
-    }
-    if (code == HUNKRAVY_OK) {
-        code = hunkravy_journal_init(
-            file->variant, &work.state, file->page_size, file->id, nonce, file->key, file->key_bytes, work.start);
-    }
-    if (code == HUNKRAVY_OK) {
-        /* Not before: sealing may take long, and the file may be moved meanwhile. */
-        code = prepare_storage(file, end);
-    }
+    TRY(seal(file, commit));
+    TRY(draw(file, nonce, sizeof nonce));
+    TRY(hunkravy_journal_init(file->variant, &commit->work.state, file->page_size, file->id, nonce, file->key,
+        file->key_bytes, commit->start));
+    /* Not before: sealing may take long, and the file may be moved meanwhile. */
+    return prepare_storage(file, end);
+}
+
+/* Takes the steps of a commit. If one fails before the file is written to, the journal is emptied, and nothing has changed. */
+static int take_commit_steps(hunkravy_file *file, struct work *work)
+{
+    int code = take_steps(work, hunkravy_commit_step);
     if (code != HUNKRAVY_OK) {
-        unseal(file, pages, sealed);
-    } else {
-        file->is_broken = 1;
-        code = take_steps(&work, hunkravy_file_commit_step);
-        file->is_broken = code != HUNKRAVY_OK;
+        file->is_broken = work->has_written || do_step(work, HUNKRAVY_STEP_EMPTY_JOURNAL, 0) != HUNKRAVY_OK ||
+            do_step(work, HUNKRAVY_STEP_SYNC_JOURNAL, 0) != HUNKRAVY_OK;
     }
-    hunkravy_wipe(&work.state, sizeof work.state);
     return code;
 }
 
 static int commit(hunkravy_file *file)
 {
-    if (file->batch != NULL) {
-        return HUNKRAVY_OPEN_BATCH;
-    }
+    size_t writes_bytes = (size_t)(file->changed + 2) * sizeof(struct write);
+    size_t pages_bytes = (size_t)file->changed * sizeof(struct page *);
+    struct commit commit = {.work = {.storage = &file->storage, .count = file->changed + 2}};
+    uint8_t *memory;
+    int code;
     if (file->changed == 0 && file->size == file->stored) {
         return HUNKRAVY_OK;
     }
     if (file->counter == UINT64_MAX) {
         return HUNKRAVY_FILE_TOO_LONG;
     }
-    size_t writes_bytes = (size_t)(file->changed + 2) * sizeof(struct write);
-    size_t pages_bytes = (size_t)file->changed * sizeof(struct page *);
-    uint8_t *memory = malloc(writes_bytes + pages_bytes + GATHERED_BYTES);
+    memory = malloc(writes_bytes + pages_bytes + GATHERED_BYTES);
     if (memory == NULL) {
         return ENOMEM;
     }
-    struct write *writes = (void *)memory;
-    struct page **pages = (void *)(memory + writes_bytes);
-    int code = commit_in(file, writes, pages, memory + writes_bytes + pages_bytes);
-    free(memory);
+    commit.work.writes = (void *)memory;
+    commit.work.journal = commit.start;
+    commit.work.buffer = memory + writes_bytes + pages_bytes;
+    commit.pages = (void *)(memory + writes_bytes);
+    code = prepare(file, &commit, find_writes(file, &commit, (void *)memory));
+    if (code == HUNKRAVY_OK) {
+        code = take_commit_steps(file, &commit.work);
+    }
     if (code == HUNKRAVY_OK) {
         file->counter++;
         file->stored = file->size;
         file->shown_count = 0;
         (void)hunkravy_file_has_room(file, file->changed);
         hunkravy_file_drop_pages(file, 0, 0);
+    } else if (!file->is_broken) {
+        unseal(file, &commit);
     }
+    free(memory);
+    hunkravy_wipe(&commit.work.state, sizeof commit.work.state);
     return code;
 }
 
 int hunkravy_file_commit(hunkravy_file *file)
 {
     TRY(hunkravy_file_check(file));
+    if (file->batch != NULL) {
+        return HUNKRAVY_OPEN_BATCH;
+    }
     return file->failure = hunkravy_file_is_this(&file->owner) ? commit(file) : HUNKRAVY_FILE_LOCKED;
 }
 
 /* ---- Opening */
-
-/* Whether a journal begins as those of the file, or as any of this variant if the file has no header. */
-static int is_of_file(const hunkravy_file *file, const uint8_t *beginning)
-{
-    static const uint8_t nonce[NONCE_BYTES] = {0};
-    hunkravy_state state;
-    uint8_t start[START_BYTES];
-    uint32_t size = file->page_size == 0 ? HUNKRAVY_PAGE_MIN_SIZE : file->page_size;
-    int code = hunkravy_journal_init(file->variant, &state, size, file->id, nonce, file->key, file->key_bytes, start);
-    hunkravy_wipe(&state, sizeof state);
-    return code == HUNKRAVY_OK && memcmp(start, beginning, file->page_size == 0 ? COMMON_BYTES : BEGINNING_BYTES) == 0;
-}
 
 /* Reads the header into the fields of the file. */
 static int open_header(hunkravy_file *file, const uint8_t *block, size_t length)
@@ -324,33 +331,38 @@ static int read_journal(const hunkravy_file *file, uint8_t *journal, uint64_t si
     return now == size ? HUNKRAVY_OK : HUNKRAVY_WRONG_JOURNAL;
 }
 
+/* Finds the writes in these bytes of a journal that was accepted, and returns how many there are. */
+static uint64_t find_entries(const uint8_t *first, size_t length, struct write *writes)
+{
+    struct write write;
+    uint64_t count = 0;
+    for (size_t at = 0; hunkravy_journal_next(first + at, length - at, &write.place, &write.length) == HUNKRAVY_OK;) {
+        write.bytes = first + at + HEAD_BYTES;
+        at += HEAD_BYTES + write.length;
+        if (writes != NULL) {
+            writes[count] = write;
+        }
+        count++;
+    }
+    return count;
+}
+
 /* Makes the writes of a journal that was accepted, which are `length` bytes, and empties it. */
 static int make_again(const hunkravy_file *file, const uint8_t *journal, size_t size, size_t length)
 {
     struct work work = {.storage = &file->storage, .journal = journal, .journal_bytes = size};
     const uint8_t *first = journal + (length == 0 ? 0 : START_BYTES);
-    struct write *writes = NULL;
-    /* Once to count the writes, and once to find them. */
-    for (int turn = 0; turn < 2; turn++) {
-        struct write write;
-        uint64_t count = 0;
-        size_t at = 0;
-        while (hunkravy_journal_next(first + at, length - at, &write.place, &write.length) == HUNKRAVY_OK) {
-            write.bytes = first + at + HEAD_BYTES;
-            at += HEAD_BYTES + write.length;
-            if (writes != NULL) {
-                writes[count] = write;
-            }
-            count++;
-        }
-        if (turn == 0 && (writes = malloc((size_t)count * sizeof *writes + GATHERED_BYTES)) == NULL) {
-            return ENOMEM;
-        }
-        work.count = count;
+    struct write *writes;
+    int code;
+    work.count = find_entries(first, length, NULL);
+    writes = malloc((size_t)work.count * sizeof *writes + GATHERED_BYTES);
+    if (writes == NULL) {
+        return ENOMEM;
     }
+    (void)find_entries(first, length, writes);
     work.writes = writes;
     work.buffer = (uint8_t *)(writes + work.count);
-    int code = take_steps(&work, hunkravy_file_recovery_step);
+    code = take_steps(&work, hunkravy_recovery_step);
     free(writes);
     return code;
 }
@@ -359,21 +371,40 @@ static int make_again(const hunkravy_file *file, const uint8_t *journal, size_t 
 static int replay(hunkravy_file *file, uint8_t *journal, uint64_t size, const uint8_t *block, size_t length)
 {
     size_t writes = 0;
-    TRY(read_journal(file, journal, size));
-    int code = hunkravy_journal_check(
-        file->variant, block, length, file->key, file->key_bytes, journal, (size_t)size, &writes);
+    int code = read_journal(file, journal, size);
+    if (code == HUNKRAVY_OK) {
+        code = hunkravy_journal_check(
+            file->variant, block, length, file->key, file->key_bytes, journal, (size_t)size, &writes);
+    }
     return code == HUNKRAVY_OK         ? make_again(file, journal, (size_t)size, writes)
         : code == HUNKRAVY_INVALID_TAG ? HUNKRAVY_NO_FILE
                                        : code;
+}
+
+/* Checks the beginning of a long journal, which is a torn journal in itself. */
+static int check_beginning(const hunkravy_file *file, const uint8_t *block, size_t length)
+{
+    uint8_t beginning[BEGINNING_BYTES + 1];
+    size_t writes;
+    int code = file->storage.read(file->storage.context, HUNKRAVY_PART_JOURNAL, 0, beginning, sizeof beginning);
+    if (code == HUNKRAVY_OK) {
+        code = hunkravy_journal_check(
+            file->variant, block, length, file->key, file->key_bytes, beginning, sizeof beginning, &writes);
+    }
+    if (code == HUNKRAVY_INVALID_TAG) {
+        code = memcmp(beginning, "AGJ1", 4) == 0 ? HUNKRAVY_OK : HUNKRAVY_NO_FILE;
+    }
+    return code;
 }
 
 /* Completes a commit that was interrupted, or leaves out all of it, and reads the header. */
 static int recover(hunkravy_file *file)
 {
     const struct hunkravy_storage *storage = &file->storage;
-    uint8_t block[BLOCK_BYTES], beginning[BEGINNING_BYTES];
+    uint8_t block[BLOCK_BYTES], *journal;
     size_t length;
     uint64_t size;
+    int code;
     TRY(storage->size(storage->context, HUNKRAVY_PART_JOURNAL, &size));
     if (size != 0) {
         TRY(CALL(file, forget, (storage->context, HUNKRAVY_PART_FILE)));
@@ -383,13 +414,10 @@ static int recover(hunkravy_file *file)
     TRY(read_block(file, block, &length));
     (void)open_header(file, block, length);
     if (size > MOST_FOREIGN_BYTES) {
-        TRY(storage->read(storage->context, HUNKRAVY_PART_JOURNAL, 0, beginning, BEGINNING_BYTES));
-        if (!is_of_file(file, beginning)) {
-            return file->page_size == 0 ? HUNKRAVY_NO_FILE : HUNKRAVY_WRONG_JOURNAL;
-        }
+        TRY(check_beginning(file, block, length));
     }
-    uint8_t *journal = size > SIZE_MAX / 2 ? NULL : malloc((size_t)size + 1);
-    int code = journal == NULL ? ENOMEM : replay(file, journal, size, block, length);
+    journal = size > SIZE_MAX / 2 ? NULL : malloc((size_t)size + 1);
+    code = journal == NULL ? ENOMEM : replay(file, journal, size, block, length);
     free(journal);
     /* A part that became shorter while it was read was replaced. */
     TRY(code == HUNKRAVY_DAMAGED_PAGE ? HUNKRAVY_WRONG_JOURNAL : code);
@@ -497,6 +525,7 @@ static int begin(hunkravy_file **opened, const struct hunkravy_storage *storage,
     const uint8_t *k, size_t klen, const uint32_t *page_size)
 {
     hunkravy_file *file = calloc(1, sizeof *file);
+    int code;
     *opened = NULL;
     if (file == NULL) {
         if (storage != NULL && storage->close != NULL) {
@@ -510,7 +539,7 @@ static int begin(hunkravy_file **opened, const struct hunkravy_storage *storage,
     if (storage != NULL) {
         file->storage = *storage;
     }
-    int code = begin_in(file, path, variant, k, klen, page_size);
+    code = begin_in(file, path, variant, k, klen, page_size);
     if (code == HUNKRAVY_OK) {
         *opened = file;
     } else {
@@ -592,8 +621,10 @@ static int add_to_commitment(hunkravy_file *file, hunkravy_state *state, uint8_t
 int hunkravy_file_commitment(hunkravy_file *file, uint8_t *mac)
 {
     hunkravy_state state;
-    TRY(hunkravy_file_check(file));
-    int code = add_to_commitment(file, &state, mac);
-    hunkravy_wipe(&state, sizeof state);
+    int code = hunkravy_file_check(file);
+    if (code == HUNKRAVY_OK) {
+        code = add_to_commitment(file, &state, mac);
+        hunkravy_wipe(&state, sizeof state);
+    }
     return code;
 }

@@ -95,10 +95,11 @@ static void add_buckets(hunkravy_file *file)
 
 static void add_page(hunkravy_file *file, struct page *page)
 {
+    struct page **bucket;
     if (file->changed / 2 >= file->bucket_count) {
         add_buckets(file);
     }
-    struct page **bucket = bucket_of(file, page->number);
+    bucket = bucket_of(file, page->number);
     page->next = *bucket;
     *bucket = page;
     file->changed++;
@@ -157,9 +158,10 @@ static int read_pages(hunkravy_file *file, uint64_t number, uint64_t count)
 {
     size_t found = (size_t)unchanged_pages(file, number, least(count, file->room)), length = file->page_bytes;
     uint64_t place = hunkravy_page_place(file->variant, file->page_size, number);
+    int code;
     file->shown_count = 0;
     file->damaged = number;
-    int code = file->storage.read(file->storage.context, HUNKRAVY_PART_FILE, place, file->shown, found * length);
+    code = file->storage.read(file->storage.context, HUNKRAVY_PART_FILE, place, file->shown, found * length);
     if (code == HUNKRAVY_DAMAGED_PAGE && found > 1) {
         /* The file ends in one of them. */
         return read_pages(file, number, 1);
@@ -183,6 +185,7 @@ static int read_pages(hunkravy_file *file, uint64_t number, uint64_t count)
 static int show(hunkravy_file *file, uint64_t number, uint64_t *count, const uint8_t **contents)
 {
     const struct page *page = changed_page(file, number);
+    uint64_t at;
     if (page != NULL) {
         *contents = page->bytes + file->key_bytes;
         *count = 1;
@@ -191,7 +194,7 @@ static int show(hunkravy_file *file, uint64_t number, uint64_t *count, const uin
     if (number - file->shown_first >= file->shown_count) {
         TRY(read_pages(file, number, *count));
     }
-    uint64_t at = number - file->shown_first;
+    at = number - file->shown_first;
     *contents = file->shown + at * file->page_bytes + file->key_bytes;
     *count = unchanged_pages(file, number, least(*count, file->shown_count - at));
     return HUNKRAVY_OK;
@@ -235,13 +238,12 @@ struct change {
 int hunkravy_file_has_room(const hunkravy_file *file, uint64_t count)
 {
     size_t each = sizeof(struct page) + file->page_bytes + 2 * sizeof(void *);
-    if (count > SIZE_MAX / 2 / each) {
-        return 0;
+    void *volatile room = NULL;
+    if (count >= 256 && count <= SIZE_MAX / 2 / each) {
+        room = malloc((size_t)count * each);
     }
-    void *volatile room = count < 256 ? NULL : malloc((size_t)count * each);
-    int result = count < 256 || room != NULL;
     free(room);
-    return result;
+    return count < 256 || room != NULL;
 }
 
 /* Makes a page that is to be changed, with the contents that it has, if the change leaves some of them. */
@@ -250,10 +252,11 @@ static int make_page(hunkravy_file *file, uint64_t number, const struct change *
     uint64_t start = number * file->page_size, count = 1;
     size_t live = live_bytes(file, number);
     const uint8_t *contents = NULL;
+    struct page *page;
     if (live != 0 && (change->offset > start || start + live > change->end)) {
         TRY(show(file, number, &count, &contents));
     }
-    struct page *page = malloc(sizeof *page + file->page_bytes);
+    page = malloc(sizeof *page + file->page_bytes);
     if (page == NULL) {
         return ENOMEM;
     }
@@ -286,16 +289,18 @@ static void change_page(const hunkravy_file *file, struct page *page, const stru
 /* Makes a change: all of it, or nothing. */
 static int make_change(hunkravy_file *file, uint64_t offset, const uint8_t *data, size_t length)
 {
+    struct change change = {offset, offset + length, data};
+    uint64_t first = least(offset, file->size) / file->page_size, after;
+    struct page *made = NULL, **last = &made;
+    int code;
     if (offset > HUNKRAVY_PAGE_MAX_CONTENTS_BYTES || length > HUNKRAVY_PAGE_MAX_CONTENTS_BYTES - offset) {
         return HUNKRAVY_FILE_TOO_LONG;
     }
     if (length == 0 && offset <= file->size) {
         return HUNKRAVY_OK;
     }
-    struct change change = {offset, offset + length, data};
-    uint64_t first = least(offset, file->size) / file->page_size, after = hunkravy_file_page_count(file, change.end);
-    struct page *made = NULL, **last = &made;
-    int code = hunkravy_file_has_room(file, after - first) ? HUNKRAVY_OK : ENOMEM;
+    after = hunkravy_file_page_count(file, change.end);
+    code = hunkravy_file_has_room(file, after - first) ? HUNKRAVY_OK : ENOMEM;
     for (uint64_t number = first; code == HUNKRAVY_OK && number < after; number++) {
         const struct page *own = changed_page(file, number);
         if (own == NULL || !is_own(file, own)) {
@@ -327,8 +332,9 @@ static int make_change(hunkravy_file *file, uint64_t offset, const uint8_t *data
 
 int hunkravy_file_write(hunkravy_file *file, uint64_t offset, const void *data, size_t datalen)
 {
+    int code;
     TRY(hunkravy_file_check(file));
-    int code = make_change(file, offset, data, datalen);
+    code = make_change(file, offset, data, datalen);
     if (code != HUNKRAVY_OK) {
         return file->failure = code;
     }
@@ -338,11 +344,11 @@ int hunkravy_file_write(hunkravy_file *file, uint64_t offset, const void *data, 
 
 int hunkravy_file_truncate(hunkravy_file *file, uint64_t size)
 {
+    uint64_t count = hunkravy_file_page_count(file, size);
     TRY(hunkravy_file_check(file));
     if (size > file->size) {
         return hunkravy_file_write(file, size, NULL, 0);
     }
-    uint64_t count = hunkravy_file_page_count(file, size);
     for (size_t i = 0; file->changed != 0 && i < file->bucket_count; i++) {
         for (struct page **link = &file->buckets[i]; *link != NULL;) {
             if ((*link)->number < count) {
@@ -369,8 +375,9 @@ static int is_open(const hunkravy_file *file, uint64_t number)
 
 int hunkravy_file_begin(hunkravy_file *file, uint64_t *number)
 {
+    struct batch *batch;
     TRY(hunkravy_file_check(file));
-    struct batch *batch = malloc(sizeof *batch);
+    batch = malloc(sizeof *batch);
     if (batch == NULL) {
         return ENOMEM;
     }
@@ -436,9 +443,13 @@ int hunkravy_file_end(hunkravy_file *file, uint64_t number)
     return code;
 }
 
-int hunkravy_file_is_in_batch(const hunkravy_file *file)
+uint64_t hunkravy_file_open_batches(const hunkravy_file *file)
 {
-    return file->batch != NULL;
+    uint64_t count = 0;
+    for (const struct batch *batch = file->batch; batch != NULL; batch = batch->outer) {
+        count++;
+    }
+    return count;
 }
 
 void hunkravy_file_discard(hunkravy_file *file)

@@ -63,9 +63,6 @@ struct hunkravy_file {
     uint64_t damaged;
 };
 
-/* A step of a commit or of a recovery. MAKE_WRITE has a number: that of a write in the file. */
-enum step { WRITE_BEGINNING, WRITE_REST, SYNC_JOURNAL, MAKE_WRITE, SYNC_FILE, REPLACE_JOURNAL, EMPTY_JOURNAL };
-
 /* Calls a function of the storage that may be null. */
 #define CALL(file, name, arguments) ((file)->storage.name == NULL ? HUNKRAVY_OK : (file)->storage.name arguments)
 
@@ -79,9 +76,6 @@ enum step { WRITE_BEGINNING, WRITE_REST, SYNC_JOURNAL, MAKE_WRITE, SYNC_FILE, RE
     } while (0)
 
 #pragma GCC visibility push(hidden)
-
-int hunkravy_file_commit_step(uint64_t number, uint64_t writes, enum step *step, uint64_t *write);
-int hunkravy_file_recovery_step(uint64_t number, uint64_t writes, enum step *step, uint64_t *write);
 
 /* contents.c */
 uint64_t hunkravy_file_page_count(const hunkravy_file *file, uint64_t size);

@@ -49,39 +49,27 @@ int hunkravy_file_is_this(const struct process *process)
 
 /* ---- Calls of the system. Each returns 0, or the error number. Those that a new glibc has under new names are made directly. */
 
-static int get(int fd, uint8_t *bytes, size_t length, uint64_t place)
+/* Fills `in` from a file, or writes `out` to it if `in` is null: all of the bytes. */
+static int transfer(int fd, uint8_t *in, const uint8_t *out, size_t length, uint64_t place)
 {
-    while (length > 0) {
-        ssize_t count = pread(fd, bytes, length, (off_t)place);
-        if (count == 0) {
+    for (size_t done = 0; done < length;) {
+        off_t at = (off_t)(place + done);
+        ssize_t count =
+            in != NULL ? pread(fd, in + done, length - done, at) : pwrite(fd, out + done, length - done, at);
+        if (count == 0 && in != NULL) {
             return HUNKRAVY_DAMAGED_PAGE;
         }
         if (count < 0 && errno != EINTR) {
             return errno;
         }
-        if (count > 0) {
-            bytes += count;
-            length -= (size_t)count;
-            place += (uint64_t)count;
-        }
+        done += count > 0 ? (size_t)count : 0;
     }
     return 0;
 }
 
 static int put(int fd, const uint8_t *bytes, size_t length, uint64_t place)
 {
-    while (length > 0) {
-        ssize_t count = pwrite(fd, bytes, length, (off_t)place);
-        if (count < 0 && errno != EINTR) {
-            return errno;
-        }
-        if (count > 0) {
-            bytes += count;
-            length -= (size_t)count;
-            place += (uint64_t)count;
-        }
-    }
-    return 0;
+    return transfer(fd, NULL, bytes, length, place);
 }
 
 static int sync_fd(int fd)
@@ -121,11 +109,11 @@ static int is_file(const struct stat *found)
 
 /* The descriptors are -1 if they are not open. */
 struct posix {
-    int file, journal, folder;
+    struct process owner;
+    int file, journal;
     int is_locked, is_name_synced, is_journal_name_synced;
     /* Whether the file was made, and has no header yet. Then it is removed if it is closed. */
     int is_unfinished;
-    struct process owner;
     /* The paths, with no links in them: of the file, its journal, the copy of that, and the folder. */
     char *path, *journal_path, *copy_path, *folder_path;
     char paths[];
@@ -141,12 +129,15 @@ static int check_name(const struct posix *posix)
     return is_there && own.st_nlink == 1 && is_same(&own, &found) ? 0 : HUNKRAVY_FILE_MOVED;
 }
 
-static int sync_folder(struct posix *posix)
+/* Syncs the names in the folder. If the user may not read the folder, they cannot be. */
+static int sync_folder(const struct posix *posix)
 {
-    if (posix->folder < 0) {
-        posix->folder = open(posix->folder_path, O_RDONLY | O_DIRECTORY | O_CLOEXEC);
+    int folder = open(posix->folder_path, O_RDONLY | O_DIRECTORY | O_CLOEXEC);
+    int code = folder < 0 ? errno : sync_fd(folder);
+    if (folder >= 0) {
+        close(folder);
     }
-    return posix->folder < 0 ? errno : sync_fd(posix->folder);
+    return code;
 }
 
 static int is_empty(int fd)
@@ -243,26 +234,38 @@ static int find_journal(const struct posix *posix, struct stat *found, int *is_t
     return is_file(found) && is_as_safe(found, &of) ? 0 : EINVAL;
 }
 
-/* Opens the journal if it has any bytes. */
-static int open_journal(struct posix *posix)
+/* Opens the journal that was found. */
+static int open_found(struct posix *posix, const struct stat *found)
 {
-    struct stat found, own;
-    int is_there = 0;
-    if (posix->journal < 0) {
-        TRY(find_journal(posix, &found, &is_there));
-    }
-    if (!is_there) {
-        return 0;
-    }
+    struct stat own;
     posix->journal = open(posix->journal_path, O_RDWR | O_NOFOLLOW | O_NONBLOCK | O_CLOEXEC);
     if (posix->journal < 0) {
         return errno;
     }
-    if (look(posix->journal, &own) != 0 || !is_same(&own, &found)) {
+    if (look(posix->journal, &own) != 0 || !is_same(&own, found)) {
         close(posix->journal);
         posix->journal = -1;
         return EINVAL;
     }
+    return 0;
+}
+
+/* Opens the journal if it has any bytes. */
+static int open_journal(struct posix *posix)
+{
+    struct stat found;
+    int is_there = 0;
+    if (posix->journal < 0) {
+        TRY(find_journal(posix, &found, &is_there));
+    }
+    return is_there ? open_found(posix, &found) : 0;
+}
+
+/* Finds an empty journal. */
+static int find_empty(const struct posix *posix, struct stat *found, int *is_there)
+{
+    TRY(find(posix->journal_path, found, is_there));
+    *is_there = *is_there && is_file(found) && found->st_size == 0;
     return 0;
 }
 
@@ -271,8 +274,8 @@ static int remove_empty(const struct posix *posix)
 {
     struct stat found;
     int is_there;
-    TRY(find(posix->journal_path, &found, &is_there));
-    return is_there && is_file(&found) && found.st_size == 0 && unlink(posix->journal_path) != 0 ? errno : 0;
+    TRY(find_empty(posix, &found, &is_there));
+    return is_there && unlink(posix->journal_path) != 0 ? errno : 0;
 }
 
 /*
@@ -282,8 +285,9 @@ static int remove_empty(const struct posix *posix)
 static int make_beside(const struct posix *posix, const char *path, int *made)
 {
     struct stat of, own;
+    int fd, code;
     TRY(look(posix->file, &of));
-    int fd = open(path, O_RDWR | O_CREAT | O_EXCL | O_CLOEXEC, 0600), code;
+    fd = open(path, O_RDWR | O_CREAT | O_EXCL | O_CLOEXEC, 0600);
     if (fd < 0) {
         return errno;
     }
@@ -347,13 +351,31 @@ static int system_replace(void *context, const uint8_t *bytes, size_t length)
     return sync_folder(posix);
 }
 
+/* Empties an empty journal once more: if an earlier sync of it has failed, the disk may have all of its bytes. */
+static int empty_again(struct posix *posix)
+{
+    struct stat found;
+    int is_there;
+    TRY(find_empty(posix, &found, &is_there));
+    if (!is_there) {
+        return 0;
+    }
+    if (open_found(posix, &found) != 0) {
+        TRY(remove_empty(posix));
+        return sync_folder(posix);
+    }
+    return ftruncate(posix->journal, 0) == 0 ? 0 : errno;
+}
+
 /* Syncs the journal and its name. If it is empty it is then removed, if it can be. */
 static int sync_journal(struct posix *posix)
 {
     struct stat own, found;
     int is_there;
     if (posix->journal < 0) {
-        (void)remove_empty(posix);
+        TRY(empty_again(posix));
+    }
+    if (posix->journal < 0) {
         return 0;
     }
     TRY(sync_fd(posix->journal));
@@ -388,7 +410,7 @@ static int system_read(void *context, enum hunkravy_part part, uint64_t place, u
 {
     int fd;
     TRY(fd_of(context, part, &fd));
-    return fd < 0 ? HUNKRAVY_DAMAGED_PAGE : get(fd, bytes, length, place);
+    return fd < 0 ? HUNKRAVY_DAMAGED_PAGE : transfer(fd, bytes, NULL, length, place);
 }
 
 static int system_write(void *context, enum hunkravy_part part, uint64_t place, const uint8_t *bytes, size_t length)
@@ -442,15 +464,12 @@ static int system_forget(void *context, enum hunkravy_part part)
 static int system_random(void *context, uint8_t *bytes, size_t length)
 {
     (void)context;
-    while (length > 0) {
-        long count = syscall(SYS_getrandom, bytes, length, 0);
+    for (size_t done = 0; done < length;) {
+        long count = syscall(SYS_getrandom, bytes + done, length - done, 0);
         if (count < 0 && errno != EINTR) {
             return errno;
         }
-        if (count > 0) {
-            bytes += count;
-            length -= (size_t)count;
-        }
+        done += count > 0 ? (size_t)count : 0;
     }
     return 0;
 }
@@ -470,9 +489,6 @@ static void system_close(void *context)
     }
     if (posix->journal >= 0) {
         close(posix->journal);
-    }
-    if (posix->folder >= 0) {
-        close(posix->folder);
     }
     close(posix->file);
     free(posix);
@@ -506,12 +522,13 @@ static struct posix *with_paths(const char *path)
 int hunkravy_file_posix(struct hunkravy_storage *storage, const char *path, int is_new)
 {
     struct process owner;
+    struct posix *posix;
     int code = hunkravy_file_this_process(&owner);
     int file = code != 0 ? -1 : open(path, O_RDWR | O_CLOEXEC | (is_new ? O_CREAT | O_EXCL : 0), 0666);
     if (file < 0) {
         return code != 0 ? code : errno;
     }
-    struct posix *posix = with_paths(path);
+    posix = with_paths(path);
     if (posix == NULL) {
         code = errno;
         if (is_new) {
@@ -521,7 +538,7 @@ int hunkravy_file_posix(struct hunkravy_storage *storage, const char *path, int 
         return code;
     }
     posix->file = file;
-    posix->journal = posix->folder = -1;
+    posix->journal = -1;
     posix->is_unfinished = is_new;
     posix->owner = owner;
     *storage = (struct hunkravy_storage){

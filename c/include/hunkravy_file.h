@@ -1,6 +1,6 @@
 /*
- * Random-access files: a file that is encrypted page by page, and read and written at any place. Changes stay in memory
- * until a commit, and AFTER A CRASH ALL CHANGES OF A COMMIT ARE THERE, OR NONE.
+ * Random-access files: encrypted files that are read and written at any position. Changes stay in memory until a commit,
+ * and AFTER A CRASH ALL CHANGES OF A COMMIT ARE THERE, OR NONE.
  *
  *     hunkravy_file *file;
  *     int code = hunkravy_file_open(&file, "store", HUNKRAVY_AEGIS256, key, sizeof key);
@@ -10,13 +10,28 @@
  *         code = hunkravy_file_close(file);
  *     }
  *
- * A commit writes its changes to the journal first, the file PATH.journal, and removes it at the end. Opening completes a
+ * A commit first writes its changes to the journal, the file PATH.journal, and at its end removes it. Opening completes a
  * commit that was interrupted, or discards all of it. `raf` in Rust, RandomAccessFile in Python and the proved crate
- * `aegis_pages` read and write the same files: RANDOM-ACCESS.md has the format, and the model of a crash.
+ * `aegis_pages` read and write the same files. RANDOM-ACCESS.md has the format, and the model of a crash.
  *
- * RESULTS. A function that is marked HUNKRAVY_MUST_USE returns HUNKRAVY_OK, a code of hunkravy.h, which is negative, or
- * the error number of the system, such as ENOSPC, which is positive. hunkravy_file_error_text has a text for each. After
- * ENOMEM nothing has changed. These codes are of files:
+ * BATCHES. A batch combines several changes into one. It means the same in C, Python and Rust:
+ *
+ * - Beginning a batch commits nothing. Changes that were pending stay pending, and the outermost batch commits them too.
+ * - In a batch nothing is committed, and all changes stay in memory. hunkravy_file_commit changes nothing, and returns
+ *   HUNKRAVY_OPEN_BATCH.
+ * - A change that fails changes nothing, and the batch goes on. To leave out the whole batch, undo it.
+ * - Ending a batch in another one keeps its changes in the outer one. Ending the outermost batch commits. If that commit
+ *   fails before it writes to the file, for example because the disk is full, the batch is undone. Changes that were
+ *   pending when it began are pending again.
+ * - Undoing a batch goes back to its beginning, and ends each batch in it. Ending a batch in which another one is open
+ *   undoes both, and returns HUNKRAVY_OPEN_BATCH.
+ * - hunkravy_file_discard goes back to the last commit, and ends each batch.
+ * - hunkravy_file_close in a batch commits nothing, frees the file, and returns HUNKRAVY_OPEN_BATCH.
+ * - Ending a batch that is not open changes nothing, and returns HUNKRAVY_WRONG_STATE.
+ *
+ * RESULTS. A function that is marked HUNKRAVY_MUST_USE returns HUNKRAVY_OK, a code of hunkravy.h (negative), or an error
+ * number of the system, such as ENOSPC (positive). hunkravy_file_error_text has a message for each. After ENOMEM nothing
+ * has changed. These codes are of files:
  *
  * - HUNKRAVY_NO_FILE: there is no header of this variant and key. A wrong key, a damaged file, or no such file.
  * - HUNKRAVY_WRONG_JOURNAL: the journal is that of another file, or of another state of this one.
@@ -26,7 +41,7 @@
  *   that opened it.
  * - HUNKRAVY_FILE_MOVED: the file was renamed, removed or replaced, or has several hard links: its journal would not be
  *   found.
- * - HUNKRAVY_FILE_BROKEN: an earlier commit failed while it wrote. Open the file again.
+ * - HUNKRAVY_FILE_BROKEN: an earlier commit has failed, and may be in the file in part. Open the file again.
  * - HUNKRAVY_OPEN_BATCH: a batch has not ended.
  *
  * THREADS. Use a file from one thread at a time. Exception: hunkravy_file_check may be called from any.
@@ -60,9 +75,10 @@ HUNKRAVY_MUST_USE int hunkravy_file_open(hunkravy_file **file, const char *path,
     size_t klen) HUNKRAVY_NONNULL(1, 2);
 
 /*
- * Commits the changes, and frees the file, in any case. Commits nothing, and returns the code why, if a batch is open, if
- * the file is broken, or if a change has failed since the last commit or discard. In another process than that of the
- * file it only frees it. A null pointer is no file, and HUNKRAVY_OK.
+ * Commits the changes, and frees the file in any case. Commits nothing and returns the code of the reason if a batch is
+ * open, if the file is broken, or if a change or a commit has failed and no commit has succeeded since: then the pending
+ * changes may be a part of what was meant. hunkravy_file_discard ends that too. In a process that did not open the file
+ * it only frees it. A null pointer is no file: HUNKRAVY_OK.
  */
 HUNKRAVY_MUST_USE int hunkravy_file_close(hunkravy_file *file);
 
@@ -77,8 +93,9 @@ HUNKRAVY_MUST_USE int hunkravy_file_read(hunkravy_file *file, uint64_t offset, v
     size_t *readlen) HUNKRAVY_NONNULL(1, 5);
 
 /*
- * Writes over the contents from `offset` on. Zeros fill a gap in front. The change stays in memory. Outside a batch the
- * write commits once more than 16 MiB are changed. After an error nothing has changed, unless it is one of a commit.
+ * Writes over the contents from `offset` on. Zeros fill a gap in front, also if `datalen` is 0. The change stays in memory.
+ * Outside a batch a write after which more than 16 MiB of pages are changed commits. After an error nothing has changed,
+ * unless it is one of that commit: then the change is made, and pending.
  */
 HUNKRAVY_MUST_USE int hunkravy_file_write(hunkravy_file *file, uint64_t offset, const void *data, size_t datalen)
     HUNKRAVY_NONNULL(1);
@@ -88,32 +105,25 @@ HUNKRAVY_MUST_USE int hunkravy_file_truncate(hunkravy_file *file, uint64_t size)
 
 /*
  * Writes all changes, so that after a crash all of them are there, or none; after HUNKRAVY_OK they are. Without changes
- * nothing is written. If there is no room, or no journal can be made, the changes are still in memory. After an error
- * of writing the file is broken: open it again, which gives the contents before the changes or after them.
+ * nothing is written. After an error the changes are still pending, and nothing else has changed, unless the file is
+ * broken (hunkravy_file_check): then opening it again gives the contents before the changes or after them.
  */
 HUNKRAVY_MUST_USE int hunkravy_file_commit(hunkravy_file *file) HUNKRAVY_NONNULL(1);
 
 /* Discards all changes since the last commit, and ends each batch. */
 void hunkravy_file_discard(hunkravy_file *file) HUNKRAVY_NONNULL(1);
 
-/*
- * Begins a batch, in another one or not, and sets `*batch` to its number. Nothing in it is committed before the
- * outermost one ends, so all of its changes stay in memory.
- */
+/* Begins a batch, in another one if there is any, and sets `*batch` to its number. */
 HUNKRAVY_MUST_USE int hunkravy_file_begin(hunkravy_file *file, uint64_t *batch) HUNKRAVY_NONNULL(1, 2);
 
-/*
- * Ends a batch. The end of the outermost one commits; after an error of that it is undone, unless the file is broken.
- * Returns HUNKRAVY_OPEN_BATCH if one in it has not ended: then both are undone. Returns HUNKRAVY_WRONG_STATE, and changes
- * nothing, if no such batch is open.
- */
+/* Ends a batch. After any error except HUNKRAVY_WRONG_STATE it has ended, and is undone unless the file is broken. */
 HUNKRAVY_MUST_USE int hunkravy_file_end(hunkravy_file *file, uint64_t batch) HUNKRAVY_NONNULL(1);
 
-/* Ends a batch, and each one in it, and goes back to its beginning. Does nothing if no such batch is open. */
+/* Undoes a batch. Does nothing if no such batch is open. */
 void hunkravy_file_undo(hunkravy_file *file, uint64_t batch) HUNKRAVY_NONNULL(1);
 
-/* Whether a batch is open. */
-HUNKRAVY_MUST_USE int hunkravy_file_is_in_batch(const hunkravy_file *file) HUNKRAVY_NONNULL(1);
+/* How many batches are open, each in the one before it. */
+uint64_t hunkravy_file_open_batches(const hunkravy_file *file) HUNKRAVY_NONNULL(1);
 
 /* Sets how many bytes of changed pages there may be before a write commits. The default is 16 MiB. */
 void hunkravy_file_set_limit(hunkravy_file *file, uint64_t limit) HUNKRAVY_NONNULL(1);
@@ -130,7 +140,7 @@ HUNKRAVY_MUST_USE int hunkravy_file_check(const hunkravy_file *file) HUNKRAVY_NO
 /* The number of the page that was found damaged last. */
 uint64_t hunkravy_file_damaged_page(const hunkravy_file *file) HUNKRAVY_NONNULL(1);
 
-/* Returns the text of a code or of an error number of the system, in English. */
+/* Returns the message of a code or of an error number of the system, in English. */
 const char *hunkravy_file_error_text(int code);
 
 /* ---- Files in another storage than files of the system */
@@ -153,12 +163,12 @@ struct hunkravy_storage {
     int (*write)(void *context, enum hunkravy_part part, uint64_t place, const uint8_t *bytes, size_t length);
     /* How many bytes it has. A journal that does not exist has none. */
     int (*size)(void *context, enum hunkravy_part part, uint64_t *size);
-    /* Empties the part, or makes it longer. Called with 0 alone. */
+    /* Sets the length. Called only to empty the journal. */
     int (*resize)(void *context, enum hunkravy_part part, uint64_t size);
-    /* Returns once everything that was written survives a loss of power. */
+    /* Returns HUNKRAVY_OK once everything that was written survives a loss of power. */
     int (*sync)(void *context, enum hunkravy_part part);
-    /* Makes `bytes` those of the journal, such that a crash leaves the old ones or these, and syncs them. If null, they are
-     * written over the journal. */
+    /* Makes `bytes` those of the journal, so that a crash leaves the old ones or these, and syncs them. May be null if all
+     * that can be read after a `sync` that has failed is stored by the next one. */
     int (*replace)(void *context, const uint8_t *bytes, size_t length);
     /* Makes reads return what would survive a loss of power now, also after a sync that failed. May be null. */
     int (*forget)(void *context, enum hunkravy_part part);
@@ -175,11 +185,11 @@ struct hunkravy_storage {
     void (*close)(void *context);
 };
 
-/* As hunkravy_file_create, in an empty storage. It is closed with the file, and after an error. */
+/* Like hunkravy_file_create, in an empty storage. It is closed with the file, and after an error. */
 HUNKRAVY_MUST_USE int hunkravy_file_create_in(hunkravy_file **file, const struct hunkravy_storage *storage,
     uint32_t variant, const uint8_t *k, size_t klen, uint32_t page_size) HUNKRAVY_NONNULL(1, 2);
 
-/* As hunkravy_file_open, in a storage. It is closed with the file, and after an error. */
+/* Like hunkravy_file_open, in a storage. It is closed with the file, and after an error. */
 HUNKRAVY_MUST_USE int hunkravy_file_open_in(hunkravy_file **file, const struct hunkravy_storage *storage,
     uint32_t variant, const uint8_t *k, size_t klen) HUNKRAVY_NONNULL(1, 2);
 

@@ -17,7 +17,7 @@ trap 'rm -r "$work"' EXIT
 
 # Compiles a file.
 compile() {
-    "${CC:-gcc}" -std=gnu99 -O2 -fPIC -fno-semantic-interposition -ffunction-sections -Wall -Wextra -Wpedantic -Werror "-I$here/../include" "$@"
+    "${CC:-gcc}" -std=gnu99 -O2 -fPIC -fno-semantic-interposition -ffunction-sections -Wall -Wextra -Wpedantic -Werror "-I$here/../include" "-I$here/../library" "$@"
 }
 
 # The names of the functions that an object exports.
@@ -71,7 +71,7 @@ compile "$@" -c "$here/choose.c" -o "$work/choose.o"
 # The engine of files is an object of its own, so that a program without files needs no calls of the system. It calls the
 # others by their names in the headers.
 mkdir "$work/file"
-for file in steps contents commit posix; do
+for file in contents commit posix; do
     compile -c "$here/../file/$file.c" -o "$work/file/$file.o"
 done
 "${CC:-gcc}" -r -nostdlib "$work"/file/*.o -o "$work/file.o"

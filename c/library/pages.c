@@ -1,5 +1,6 @@
-/* The calls of hunkravy_pages.h, over the proved exports. */
+/* The calls of hunkravy_pages.h and of journal.h, over the proved exports. */
 #include "hunkravy_pages.h"
+#include "journal.h"
 #include "proved.h"
 
 #include <string.h>

@@ -39,7 +39,7 @@ static size_t node_count;
 /* The paths of the file, its journal and the copy of that, and the numbers that the disk has for them, or 0. */
 static char paths[NAMES][100];
 static ino_t names[NAMES];
-static int calls_left = ALL, syncs_left = ALL;
+static int calls_left = ALL, syncs_left = ALL, failing_syncs = 1;
 
 static int is_made(void)
 {
@@ -53,7 +53,6 @@ static int is_made(void)
 
 /* What another program does before a file is locked or synced. A result that is not 0 is an error number. */
 static int (*meanwhile)(void);
-static int refuses_owners;
 
 static int is_let(void)
 {
@@ -66,12 +65,6 @@ static int is_let(void)
 WRAPPED(int, flock, (int fd, int operation))
 {
     return is_let() ? __real_flock(fd, operation) : -1;
-}
-
-WRAPPED(int, fchown, (int fd, uid_t user, gid_t group))
-{
-    errno = EPERM;
-    return refuses_owners && user != (uid_t)-1 ? -1 : __real_fchown(fd, user, group);
 }
 
 static ino_t number_of(const char *path)
@@ -101,11 +94,12 @@ static struct node *node_at(int fd)
     return node_of(found.st_ino);
 }
 
-/* Stores what was written to a file: all of it, or each sector and the length by chance. */
+/* Stores what was written to a file: all of it, or by chance all, nothing, or some sectors, with one length or the other. */
 static void store(struct node *node, int fd, int is_all)
 {
     static unsigned char now[MOST_STORED];
     ssize_t length = pread(fd, now, sizeof now, 0);
+    int habit = is_all ? 0 : rand() % 3;
 
     HOLDS(length >= 0);
     if (is_all || rand() % 2 == 0) {
@@ -116,9 +110,9 @@ static void store(struct node *node, int fd, int is_all)
         size_t end = node->dirty[i].place + node->dirty[i].length;
         for (size_t at = node->dirty[i].place, next; at < end; at = next) {
             next = (at / 512 + 1) * 512 < end ? (at / 512 + 1) * 512 : end;
-            if (is_all || rand() % 3 == 0) {
+            if (habit == 0 || (habit == 1 && rand() % 3 == 0)) {
                 memcpy(node->bytes + at, now + at, next - at);
-            } else if (rand() % 4 == 0) {
+            } else if (habit == 1 && rand() % 4 == 0) {
                 memset(node->bytes + at, rand(), next - at);
             }
         }
@@ -142,7 +136,7 @@ WRAPPED(ssize_t, pwrite, (int fd, const void *bytes, size_t length, off_t place)
 WRAPPED(int, fsync, (int fd))
 {
     struct stat found;
-    int is_right = is_let() && is_made() && syncs_left-- != 0;
+    int left = syncs_left--, is_right = is_let() && is_made() && (left > 0 || left <= -failing_syncs);
     HOLDS(fstat(fd, &found) == 0);
     if (S_ISDIR(found.st_mode)) {
         for (int i = 0; is_right && i < NAMES; i++) {
@@ -165,13 +159,28 @@ WRAPPED(int, fallocate, (int fd, int mode, off_t place, off_t length))
     return is_made() ? __real_fallocate(fd, mode, place, length) : -1;
 }
 
+/* Keeps a file that loses its name: until the folder is synced the disk may have it, so no other one gets its number. */
+static int kept[MOST_NODES];
+static size_t kept_count;
+
+static void keep(const char *path)
+{
+    int fd = open(path, O_RDONLY);
+    if (fd >= 0) {
+        HOLDS(kept_count < MOST_NODES);
+        kept[kept_count++] = fd;
+    }
+}
+
 WRAPPED(int, rename, (const char *from, const char *to))
 {
+    keep(to);
     return is_made() ? __real_rename(from, to) : -1;
 }
 
 WRAPPED(int, unlink, (const char *path))
 {
+    keep(path);
     return is_made() ? __real_unlink(path) : -1;
 }
 
@@ -197,6 +206,9 @@ static void crash(void)
         memcpy(bytes[i], node == NULL ? bytes[i] : node->bytes, lengths[i]);
     }
     node_count = 0;
+    while (kept_count > 0) {
+        close(kept[--kept_count]);
+    }
     for (int i = 0; i < NAMES; i++) {
         (void)__real_unlink(paths[i]);
     }
@@ -325,28 +337,6 @@ static void check_creations(void)
     node_count = 0;
 }
 
-/* The journal of a user who cannot give it to the owner of the file has no more rights than the file. */
-static void check_modes(void)
-{
-    static const mode_t modes[][2] = {{0660, 0660}, {0666, 0666}, {0644, 0644}, {0600, 0600}, {0606, 0600}};
-    hunkravy_file *file;
-    struct stat found;
-    for (size_t i = 0; i < COUNT(modes); i++) {
-        for (refuses_owners = 0; refuses_owners < 2; refuses_owners++) {
-            HOLDS(hunkravy_file_create(&file, paths[0], HUNKRAVY_AEGIS256, key, sizeof key, 0) == 0);
-            HOLDS(chmod(paths[0], modes[i][0]) == 0 && hunkravy_file_write(file, 0, "x", 1) == 0);
-            /* After the first writes to the journal. */
-            syncs_left = 2;
-            HOLDS(hunkravy_file_commit(file) == EIO && hunkravy_file_close(file) == HUNKRAVY_FILE_BROKEN);
-            HOLDS(stat(paths[1], &found) == 0 && (found.st_mode & 0777) == modes[i][1]);
-            HOLDS(__real_unlink(paths[0]) == 0 && __real_unlink(paths[1]) == 0);
-            syncs_left = ALL;
-            node_count = 0;
-        }
-    }
-    refuses_owners = 0;
-}
-
 int main(int argc, char **argv)
 {
     char folder[] = "/tmp/check_posix-XXXXXX";
@@ -362,22 +352,26 @@ int main(int argc, char **argv)
         snprintf(paths[i], sizeof paths[i], "%s/file%s", folder, ends[i]);
     }
     check_creations();
-    check_modes();
     HOLDS(hunkravy_file_create(&file, paths[0], HUNKRAVY_AEGIS256, key, sizeof key, 0) == 0);
     HOLDS(hunkravy_file_close(file) == 0 && set_texts('a', ALL, ALL));
     for (int turn = 0; turn < turns; turn++) {
-        int letter = letter_of_texts(), next = letter == 'a' ? 'b' : 'a', found;
-        int made = set_texts(next, rand() % 24, rand() % 16);
-        for (int more = rand() % 3; more > 0; more--) {
-            if (rand() % 2 == 0) {
+        int letter = letter_of_texts(), next = letter == 'a' ? 'b' : 'a', seen = 0, found, made;
+        /* By turns the last sync of the journal and the next one, of the journal that is emptied, fail, and the file is opened. */
+        int are_last = turn % 8 == 0;
+        failing_syncs = are_last ? 2 : 1 + rand() % 2;
+        made = set_texts(next, are_last || rand() % 2 ? ALL : rand() % 24, are_last ? 3 : rand() % 9);
+        for (int more = are_last ? 1 : rand() % 3; more > 0; more--) {
+            if (!are_last && rand() % 2 == 0) {
                 crash();
                 crashes++;
             }
-            calls_left = rand() % 24;
-            syncs_left = rand() % 4 == 0 ? rand() % 8 : ALL;
+            calls_left = are_last ? ALL : rand() % 24;
+            syncs_left = are_last || rand() % 4 != 0 ? ALL : rand() % 8;
             found = open_texts(&file);
             if (found > 0) {
                 HOLDS(found == next || (!made && found == letter));
+                HOLDS(seen == 0 || found == seen);
+                seen = found;
                 (void)!hunkravy_file_close(file);
             }
         }
@@ -386,6 +380,8 @@ int main(int argc, char **argv)
         found = letter_of_texts();
         changed += found == next;
         HOLDS(found == next || (!made && found == letter));
+        /* What an opening has found is certain. */
+        HOLDS(seen == 0 || found == seen);
     }
     HOLDS(changed > turns / 10 && changed < turns);
     printf("random-access files of the system: %lu checks, %d crashes, %d with the change\n", checks, crashes, changed);

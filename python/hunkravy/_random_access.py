@@ -40,36 +40,37 @@ class RandomAccessError(ValueError):
 
 
 class RandomAccessFile(variants.Secret, _native.RandomAccessFile):
-    """An encrypted file whose contents are read and written at any place.
+    """An encrypted file whose contents are read and written at any position.
 
     `RandomAccessFile(path, key, *, cipher=Aegis256, check_same_thread=True)` opens the file at a path, and completes a
     commit that was interrupted, or discards all of it. `create` makes an empty one.
 
-    Changes are kept in memory until a commit: `commit`, the end of a `batch`, `close`, or a write after which more than
-    16 MiB are changed. **After a crash all changes of a commit are there, or none.** A commit writes them to the journal
-    first, the file `PATH.journal`, and removes it at the end.
+    Changes stay in memory until a commit: `commit`, the end of the outermost `batch`, `close`, the end of a `with` block,
+    or outside a batch a write after which more than 16 MiB are changed. **After a crash all changes of a commit are there,
+    or none.** A commit first writes them to the journal, the file `PATH.journal`, and removes it at the end.
 
     The file is locked while it is open, and belongs to the process that opened it. As in `sqlite3` only the thread that
     opened it may use it, unless `check_same_thread` is false. Then calls wait for each other, and threads have to take
     turns with batches and with positions of streams. Each error is a `RandomAccessError` or an `OSError`.
 
-    In a `with` block an exception discards the changes. A file that is dropped without `close` loses them too.
+    An exception that leaves a `with` block discards the changes. A file that is dropped without `close` loses them too.
     """
 
     __slots__ = ()
 
     def batch(self) -> ContextManager[Self]:
-        """Makes several changes together: `with file.batch():` commits them at its end, or undoes them after an exception.
+        """Makes several changes one: `with file.batch():` commits them at its end, or undoes them after an exception.
 
-        A batch in another one commits nothing: if it fails, its own changes are undone. While one is open, `commit` and
-        `close` raise `RuntimeError`. `discard` ends all of them.
+        A batch in another one commits nothing: it is a savepoint. Changes from before the outermost batch are committed
+        with it, and are still pending after it was undone. While a batch is open, `commit` raises `RuntimeError` and changes
+        nothing, and `close` raises it and closes the file without a commit. `discard` ends all batches.
         """
         return _native.Batch(self)
 
     def open_stream(self) -> RandomAccessStream:
-        """Returns a raw file object with a position of its own, such as for `tarfile`, `zipfile` or `io.BufferedRandom`.
+        """Returns a raw file object with a position of its own, for example for `tarfile`, `zipfile` or `io.BufferedRandom`.
 
-        Closing it commits, outside a batch. The file stays open.
+        Closing it commits, outside a batch. The file stays open. Undoing a batch does not move the position back.
         """
         return RandomAccessStream(self)
 

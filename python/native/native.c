@@ -324,13 +324,14 @@ typedef struct {
 static PyObject *cipher_new(PyTypeObject *type, PyObject *arguments, PyObject *named)
 {
     Py_buffer key;
-    unsigned int variant;
+    uint64_t number;
     Py_ssize_t tag_length;
     Cipher *self = NULL;
     (void)named;
-    if (!PyArg_ParseTuple(arguments, "Iy*n", &variant, &key, &tag_length)) {
+    if (!PyArg_ParseTuple(arguments, "O&y*n", natural, &number, &key, &tag_length)) {
         return NULL;
     }
+    uint32_t variant = number > UINT32_MAX ? UINT32_MAX : (uint32_t)number;
     if (hunkravy_key_bytes(variant) == 0) {
         PyErr_SetString(PyExc_TypeError, "use one of the six variants, such as Aegis256");
     } else if (tag_length != HUNKRAVY_SHORT_TAG_BYTES && tag_length != HUNKRAVY_LONG_TAG_BYTES) {
@@ -567,10 +568,10 @@ static PyObject *records_begin(PyObject *object, PyObject *given)
 {
     Records *self = (Records *)object;
     uint8_t header[HUNKRAVY_RECORD_HEADER_BYTES];
-    unsigned long long number = 0, before = 0;
+    uint64_t number = 0, before = 0;
     const uint8_t *context = (const uint8_t *)PyBytes_AsString(self->context);
     size_t length = (size_t)PyBytes_Size(self->context);
-    if (!PyArg_ParseTuple(given, "|KK", &number, &before)) {
+    if (!PyArg_ParseTuple(given, "|O&O&", natural, &number, natural, &before)) {
         return NULL;
     }
     PyThreadState *released = lock(self, 0);

@@ -40,6 +40,22 @@ static inline PyObject *new_bytes(size_t length, uint8_t **out)
     return bytes;
 }
 
+/* Converts an integer from 0 to 2^64 - 1, for a format with "O&". Raises an error for any other, and cuts off no bits. */
+static inline int natural(PyObject *given, void *result)
+{
+    int is_too_large = 0;
+    PyObject *number = PyNumber_Index(given);
+    *(uint64_t *)result = 0;
+    if (number != NULL && PyLong_AsLongLongAndOverflow(number, &is_too_large) < 0 && is_too_large <= 0 &&
+        !PyErr_Occurred()) {
+        PyErr_Format(PyExc_ValueError, "must not be negative: %R", number);
+    } else if (number != NULL && !PyErr_Occurred()) {
+        *(uint64_t *)result = PyLong_AsUnsignedLongLong(number);
+    }
+    Py_XDECREF(number);
+    return PyErr_Occurred() == NULL;
+}
+
 /* The types of random_access.c. */
 extern PyType_Spec file_spec, batch_spec;
 

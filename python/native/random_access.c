@@ -17,23 +17,47 @@ typedef struct {
     hunkravy_file *file;
     /* The thread that may use it, or 0 for all. */
     unsigned long thread;
+    /* How many blocks of batches are being run. A batch may be undone before its block ends. */
+    uint64_t blocks;
 } File;
 
 /* ---- Exceptions */
 
-/* Raises RandomAccessError with its cause, and the number of the page for "damaged". */
-static void raise_cause(const char *cause, PyObject *page)
+static const struct {
+    int code;
+    const char *cause;
+} CAUSES[] = {
+    {HUNKRAVY_NO_FILE, "header"},
+    {HUNKRAVY_WRONG_JOURNAL, "journal"},
+    {HUNKRAVY_DAMAGED_PAGE, "damaged"},
+    {HUNKRAVY_FILE_TOO_LONG, "too_long"},
+    {HUNKRAVY_FILE_LOCKED, "locked"},
+    {HUNKRAVY_FILE_MOVED, "moved"},
+    {HUNKRAVY_FILE_BROKEN, "broken"},
+};
+
+/* Raises RandomAccessError with the cause of a code, if it has one, and the number of a page that is damaged. */
+static bool raise_cause(int code, uint64_t page)
 {
-    PyObject *module = page == NULL ? NULL : PyImport_ImportModule("hunkravy._random_access");
+    size_t i = 0;
+    while (i < sizeof CAUSES / sizeof CAUSES[0] && CAUSES[i].code != code) {
+        i++;
+    }
+    if (i == sizeof CAUSES / sizeof CAUSES[0]) {
+        return false;
+    }
+    PyObject *module = PyImport_ImportModule("hunkravy._random_access");
     PyObject *type = module == NULL ? NULL : PyObject_GetAttrString(module, "RandomAccessError");
-    PyObject *error = type == NULL ? NULL : PyObject_CallFunction(type, "sO", cause, page);
+    PyObject *error = type == NULL      ? NULL
+        : code == HUNKRAVY_DAMAGED_PAGE ? PyObject_CallFunction(type, "sK", CAUSES[i].cause, page)
+                                        : PyObject_CallFunction(type, "s", CAUSES[i].cause);
     if (error != NULL) {
         PyErr_SetObject(type, error);
     }
     Py_XDECREF(error);
     Py_XDECREF(type);
     Py_XDECREF(module);
-    Py_XDECREF(page);
+    return true;
 }
 
 /* Returns the result if the code is HUNKRAVY_OK. Otherwise drops it, and returns null with the code's exception. */
@@ -43,50 +67,26 @@ static PyObject *result_of(int code, uint64_t page, PyObject *path, PyObject *re
         return result;
     }
     Py_XDECREF(result);
-    switch (code) {
-    case HUNKRAVY_NO_FILE:
-        raise_cause("header", Py_NewRef(Py_None));
-        break;
-    case HUNKRAVY_WRONG_JOURNAL:
-        raise_cause("journal", Py_NewRef(Py_None));
-        break;
-    case HUNKRAVY_DAMAGED_PAGE:
-        raise_cause("damaged", PyLong_FromUnsignedLongLong(page));
-        break;
-    case HUNKRAVY_FILE_TOO_LONG:
-        raise_cause("too_long", Py_NewRef(Py_None));
-        break;
-    case HUNKRAVY_FILE_LOCKED:
-        raise_cause("locked", Py_NewRef(Py_None));
-        break;
-    case HUNKRAVY_FILE_MOVED:
-        raise_cause("moved", Py_NewRef(Py_None));
-        break;
-    case HUNKRAVY_FILE_BROKEN:
-        raise_cause("broken", Py_NewRef(Py_None));
-        break;
-    case HUNKRAVY_OPEN_BATCH:
-        PyErr_SetString(PyExc_RuntimeError, "a batch has not ended");
-        break;
-    case HUNKRAVY_WRONG_STATE:
-        PyErr_SetString(PyExc_RuntimeError, "this batch has not begun, or has ended");
-        break;
-    case HUNKRAVY_WRONG_VARIANT:
-        PyErr_SetString(PyExc_TypeError, "use one of the six variants, such as Aegis256");
-        break;
-    case ENOMEM:
-        PyErr_NoMemory();
-        break;
-    default:
-        if (code > 0) {
-            PyObject *name = path == NULL ? NULL : PyUnicode_DecodeFSDefault(PyBytes_AsString(path));
-            errno = code;
-            PyErr_SetFromErrnoWithFilenameObject(PyExc_OSError, name);
-            Py_XDECREF(name);
-        } else {
-            PyErr_SetString(PyExc_ValueError, hunkravy_error_text(code));
-        }
+    if (raise_cause(code, page)) {
+        return NULL;
     }
+    if (code == ENOMEM) {
+        return PyErr_NoMemory();
+    }
+    if (code > 0) {
+        PyObject *name = path == NULL ? NULL : PyUnicode_DecodeFSDefault(PyBytes_AsString(path));
+        errno = code;
+        PyErr_SetFromErrnoWithFilenameObject(PyExc_OSError, name);
+        Py_XDECREF(name);
+        return NULL;
+    }
+    PyObject *type = code == HUNKRAVY_OPEN_BATCH || code == HUNKRAVY_WRONG_STATE ? PyExc_RuntimeError
+        : code == HUNKRAVY_WRONG_VARIANT                                         ? PyExc_TypeError
+                                                                                 : PyExc_ValueError;
+    PyErr_SetString(type,
+        code == HUNKRAVY_WRONG_STATE         ? "this batch has not begun, or has ended"
+            : code == HUNKRAVY_WRONG_VARIANT ? "use one of the six variants, such as Aegis256"
+                                             : hunkravy_error_text(code));
     return NULL;
 }
 
@@ -105,8 +105,7 @@ static bool begin(File *self)
     }
     while (self->file != NULL && !PyThread_acquire_lock(self->lock, NOWAIT_LOCK)) {
         if (hunkravy_file_check(self->file) == HUNKRAVY_FILE_LOCKED) {
-            raise_cause("locked", Py_NewRef(Py_None));
-            return false;
+            return !raise_cause(HUNKRAVY_FILE_LOCKED, 0);
         }
         PyThreadState *released = PyEval_SaveThread();
         PyThread_acquire_lock(self->lock, WAIT_LOCK);
@@ -117,6 +116,20 @@ static bool begin(File *self)
         PyErr_SetString(PyExc_ValueError, "I/O operation on closed file");
     }
     return self->file != NULL;
+}
+
+/* The same for a change. In a block whose batch was undone it would be in no batch, so there it fails. */
+static bool begin_change(File *self)
+{
+    if (!begin(self)) {
+        return false;
+    }
+    if (self->blocks <= hunkravy_file_open_batches(self->file)) {
+        return true;
+    }
+    PyThread_release_lock(self->lock);
+    PyErr_SetString(PyExc_RuntimeError, "the batch of this block has ended: it was undone or discarded");
+    return false;
 }
 
 /* Makes a call of the library without the interpreter's lock, and releases that of the file before taking it again. */
@@ -130,47 +143,45 @@ static bool begin(File *self)
     } while (0)
 
 /* The method NAME without arguments. */
-#define METHOD(NAME, CALLED) \
+#define METHOD(NAME, BEGIN, CALLED) \
     static PyObject *NAME(PyObject *object, PyObject *none) \
     { \
         File *self = (File *)object; \
         int code; \
         uint64_t page; \
         (void)none; \
-        if (!begin(self)) { \
+        if (!BEGIN(self)) { \
             return NULL; \
         } \
         CALL(self, code, page, CALLED); \
         return result_of(code, page, NULL, Py_NewRef(Py_None)); \
     }
 
-METHOD(file_commit, hunkravy_file_commit(self->file))
-METHOD(file_discard, (hunkravy_file_discard(self->file), HUNKRAVY_OK))
-
-/* Converts a number that is not negative. One that is too large for any file becomes the largest. */
-static int natural(PyObject *given, void *result)
-{
-    int is_too_large;
-    PyObject *number = PyNumber_Index(given);
-    long long value = number == NULL ? -1 : PyLong_AsLongLongAndOverflow(number, &is_too_large);
-    if (number != NULL && (value < 0) && is_too_large <= 0 && !PyErr_Occurred()) {
-        PyErr_Format(PyExc_ValueError, "must not be negative: %R", number);
-    }
-    *(uint64_t *)result = number != NULL && is_too_large > 0 ? INT64_MAX : (uint64_t)value;
-    Py_XDECREF(number);
-    return PyErr_Occurred() == NULL;
-}
+METHOD(file_commit, begin_change, hunkravy_file_commit(self->file))
+METHOD(file_discard, begin, (hunkravy_file_discard(self->file), HUNKRAVY_OK))
 
 /* ---- Opening and closing */
+
+/* Returns the number of a variant, or one that no variant has, with an exception or without. */
+static uint32_t variant_of(PyObject *cipher)
+{
+    uint64_t number = UINT32_MAX;
+    PyObject *found = PyObject_GetAttrString(cipher, "_VARIANT");
+    if (found != NULL && natural(found, &number) && number > UINT32_MAX) {
+        number = UINT32_MAX;
+    }
+    Py_XDECREF(found);
+    return (uint32_t)number;
+}
 
 /* Opens a file in an object, or creates one. */
 static int open_in(File *self, PyObject *given, PyObject *named, bool is_new)
 {
     static char *of_create[] = {"path", "key", "cipher", "check_same_thread", "page_size", NULL};
     static char *of_open[] = {"path", "key", "cipher", "check_same_thread", NULL};
-    PyObject *cipher = NULL, *number = NULL, *path = NULL, *size = Py_None;
+    PyObject *cipher = NULL, *path = NULL, *size = Py_None;
     Py_buffer key = {.obj = NULL};
-    unsigned long variant = HUNKRAVY_AEGIS256;
+    uint32_t variant = HUNKRAVY_AEGIS256;
     uint64_t page_size = 0;
     int checks = 1, code;
     if (!PyArg_ParseTupleAndKeywords(given, named, is_new ? "O&y*|$OpO:create" : "O&y*|$Op:RandomAccessFile",
@@ -179,21 +190,20 @@ static int open_in(File *self, PyObject *given, PyObject *named, bool is_new)
     }
     if (self->file != NULL) {
         PyErr_SetString(PyExc_RuntimeError, "the file is open already");
-    } else if (cipher != NULL && (number = PyObject_GetAttrString(cipher, "_VARIANT")) != NULL) {
-        variant = PyLong_AsUnsignedLong(number);
-        Py_DECREF(number);
+    } else if (cipher != NULL) {
+        variant = variant_of(cipher);
     }
     if (!PyErr_Occurred() && size != Py_None && natural(size, &page_size) &&
         (page_size == 0 || page_size > UINT32_MAX)) {
+        /* 0 is the default for None alone, and no larger number is a page size either. */
         page_size = 1;
     }
     if (!PyErr_Occurred()) {
         hunkravy_file *file;
         const char *name = PyBytes_AsString(path);
         PyThreadState *released = PyEval_SaveThread();
-        code = is_new
-            ? hunkravy_file_create(&file, name, (uint32_t)variant, key.buf, (size_t)key.len, (uint32_t)page_size)
-            : hunkravy_file_open(&file, name, (uint32_t)variant, key.buf, (size_t)key.len);
+        code = is_new ? hunkravy_file_create(&file, name, variant, key.buf, (size_t)key.len, (uint32_t)page_size)
+                      : hunkravy_file_open(&file, name, variant, key.buf, (size_t)key.len);
         PyEval_RestoreThread(released);
         self->file = file;
         self->thread = checks ? PyThread_get_thread_ident() : 0;
@@ -225,12 +235,10 @@ static PyObject *file_create(PyObject *type, PyObject *given, PyObject *named)
     return object;
 }
 
-/* Closes the file. It commits its changes if there is no batch. That a commit has failed was raised before. */
-static PyObject *file_close(PyObject *object, PyObject *none)
+/* Closes the file, after a commit if `commits`. That a file is broken was raised before. */
+static PyObject *close_file(File *self, bool commits)
 {
-    File *self = (File *)object;
     hunkravy_file *file = self->file;
-    (void)none;
     if (file == NULL) {
         Py_RETURN_NONE;
     }
@@ -243,14 +251,21 @@ static PyObject *file_close(PyObject *object, PyObject *none)
     file = self->file;
     self->file = NULL;
     PyThreadState *released = PyEval_SaveThread();
-    int code = is_here ? hunkravy_file_commit(file) : HUNKRAVY_OK;
+    int code = is_here && commits ? hunkravy_file_commit(file) : HUNKRAVY_OK;
+    uint64_t page = hunkravy_file_damaged_page(file);
     int closed = hunkravy_file_close(file);
     if (is_here) {
         PyThread_release_lock(self->lock);
     }
     PyEval_RestoreThread(released);
     code = code == HUNKRAVY_OK ? closed : code;
-    return result_of(code == HUNKRAVY_FILE_BROKEN ? HUNKRAVY_OK : code, 0, NULL, Py_NewRef(Py_None));
+    return result_of(code == HUNKRAVY_FILE_BROKEN ? HUNKRAVY_OK : code, page, NULL, Py_NewRef(Py_None));
+}
+
+static PyObject *file_close(PyObject *object, PyObject *none)
+{
+    (void)none;
+    return close_file((File *)object, false);
 }
 
 /* A file that is dropped without `close` loses its changes. */
@@ -281,17 +296,23 @@ static PyObject *file_enter(PyObject *object, PyObject *none)
     return result_of(code, 0, NULL, Py_NewRef(object));
 }
 
+/* Whether a block has ended with an exception: the first of the arguments of `__exit__`. Less than 0 is an error. */
+static int has_failed(PyObject *given)
+{
+    PyObject *kind, *error, *traceback;
+    return !PyArg_ParseTuple(given, "OOO", &kind, &error, &traceback) ? -1 : kind != Py_None;
+}
+
 static PyObject *file_exit(PyObject *object, PyObject *given)
 {
-    PyObject *kind, *error, *traceback, *result = NULL;
-    if (!PyArg_ParseTuple(given, "OOO", &kind, &error, &traceback)) {
+    int failed = has_failed(given);
+    PyObject *result = failed > 0 && ((File *)object)->file != NULL ? file_discard(object, NULL) : Py_NewRef(Py_None);
+    if (failed < 0 || result == NULL) {
+        Py_XDECREF(result);
         return NULL;
     }
-    if (kind != Py_None && ((File *)object)->file != NULL && (result = file_discard(object, NULL)) == NULL) {
-        return NULL;
-    }
-    Py_XDECREF(result);
-    return file_close(object, NULL);
+    Py_DECREF(result);
+    return close_file((File *)object, !failed);
 }
 
 /* ---- The contents */
@@ -347,7 +368,7 @@ static PyObject *file_write_at(PyObject *object, PyObject *given)
         return NULL;
     }
     length = (size_t)data.len;
-    if (begin(self)) {
+    if (begin_change(self)) {
         CALL(self, code, page, hunkravy_file_write(self->file, offset, data.buf, length));
         (void)result_of(code, page, NULL, NULL);
     }
@@ -360,7 +381,7 @@ static PyObject *file_truncate(PyObject *object, PyObject *given)
     File *self = (File *)object;
     uint64_t size, page;
     int code;
-    if (!natural(given, &size) || !begin(self)) {
+    if (!natural(given, &size) || !begin_change(self)) {
         return NULL;
     }
     CALL(self, code, page, hunkravy_file_truncate(self->file, size));
@@ -388,7 +409,8 @@ static PyObject *file_closed(PyObject *object, void *closure)
 static PyObject *file_is_in_batch(PyObject *object, void *closure)
 {
     (void)closure;
-    return PyBool_FromLong(((File *)object)->file != NULL && hunkravy_file_is_in_batch(((File *)object)->file));
+    const hunkravy_file *file = ((File *)object)->file;
+    return PyBool_FromLong(file != NULL && hunkravy_file_open_batches(file) != 0);
 }
 
 /* ---- Batches */
@@ -421,12 +443,22 @@ static PyObject *batch_enter(PyObject *object, PyObject *none)
     if (self->number != 0) {
         return PyErr_SetString(PyExc_RuntimeError, "this batch has begun"), NULL;
     }
-    if (!begin(file)) {
+    if (!begin_change(file)) {
         return NULL;
     }
     int code = hunkravy_file_begin(file->file, &self->number);
+    file->blocks += code == HUNKRAVY_OK;
     PyThread_release_lock(file->lock);
     return result_of(code, 0, NULL, Py_NewRef(self->file));
+}
+
+/* The block of a batch is over, or will never be. */
+static void leave_block(Batch *self)
+{
+    if (self->number != 0) {
+        self->number = 0;
+        ((File *)self->file)->blocks--;
+    }
 }
 
 /* Commits after the outermost block, unless that raised an exception. */
@@ -434,22 +466,18 @@ static PyObject *batch_exit(PyObject *object, PyObject *given)
 {
     Batch *self = (Batch *)object;
     File *file = (File *)self->file;
-    PyObject *kind, *error, *traceback;
     uint64_t number = self->number, page;
-    int code;
-    if (!PyArg_ParseTuple(given, "OOO", &kind, &error, &traceback)) {
-        return NULL;
-    }
-    if (kind != Py_None && file->file == NULL) {
+    int failed = has_failed(given), code;
+    if (failed > 0 && file->file == NULL) {
+        leave_block(self);
         Py_RETURN_NONE;
     }
-    if (!begin(file)) {
+    if (failed < 0 || !begin(file)) {
         return NULL;
     }
-    self->number = 0;
+    leave_block(self);
     CALL(file, code, page,
-        kind == Py_None ? hunkravy_file_end(file->file, number)
-                        : (hunkravy_file_undo(file->file, number), HUNKRAVY_OK));
+        failed ? (hunkravy_file_undo(file->file, number), HUNKRAVY_OK) : hunkravy_file_end(file->file, number));
     return result_of(code, page, NULL, Py_NewRef(Py_None));
 }
 
@@ -462,6 +490,9 @@ static int batch_traverse(PyObject *object, visitproc visit, void *arg)
 
 static int batch_clear(PyObject *object)
 {
+    if (((Batch *)object)->file != NULL) {
+        leave_block((Batch *)object);
+    }
     Py_CLEAR(((Batch *)object)->file);
     return 0;
 }
@@ -490,36 +521,35 @@ PyType_Spec batch_spec = {"hunkravy._native.Batch", sizeof(Batch), 0, TYPE_FLAGS
 static PyMethodDef file_methods[] = {
     {"create", (PyCFunction)(void (*)(void))file_create, METH_CLASS | METH_VARARGS | METH_KEYWORDS,
         "create($type, path, key, *, cipher=Aegis256, check_same_thread=True, page_size=None)\n--\n\n"
-        "Creates an empty file at a path where there is none, and opens it. `page_size` is from 256 to 65,536 bytes "
-        "of\n"
-        "contents. A page of the default size fills a block of 4,096 bytes."},
+        "Creates an empty file at a path where there is none, and opens it. `page_size` is from 256 to 65,536\n"
+        "bytes of contents. A page of the default size fills a block of 4,096 bytes."},
     {"read_at", file_read_at, METH_VARARGS,
         "read_at($self, offset, length, /)\n--\n\n"
         "Returns the bytes of the contents from `offset` on: `length`, or fewer at the end of the contents."},
     {"_read_into", file_read_into, METH_VARARGS, NULL},
     {"write_at", file_write_at, METH_VARARGS,
         "write_at($self, offset, data, /)\n--\n\n"
-        "Writes the data over the contents from `offset` on, and returns their length. Zeros fill a gap in front. "
-        "After an\n"
-        "exception nothing has changed, unless it is one of `commit`."},
+        "Writes the data over the contents from `offset` on, and returns their length. Zeros fill a gap in\n"
+        "front, also if there are no data. After an exception nothing has changed, unless it is one of a\n"
+        "commit."},
     {"truncate", file_truncate, METH_O,
         "truncate($self, size, /)\n--\n\n"
-        "Truncates the contents to `size` bytes, or extends them with zeros, and returns `size`. The file itself does "
-        "not\n"
-        "become shorter."},
+        "Truncates the contents to `size` bytes, or extends them with zeros, and returns `size`. The file\n"
+        "itself does not become shorter."},
     {"commit", file_commit, METH_NOARGS,
         "commit($self, /)\n--\n\n"
-        "Writes all changes, so that after a crash all of them are there, or none. On return they are. If the journal\n"
-        "cannot be made, or there is no room for longer contents, they are still in memory. After an exception of "
-        "writing\n"
-        "the file is broken: open it again, which gives the contents before the changes or after them."},
+        "Writes all changes, so that after a crash all of them are there, or none. On return they are. After\n"
+        "an exception they are still in memory, unless each later call raises \"broken\": then open the file\n"
+        "again, which gives the contents before the changes or after them. In a batch it raises\n"
+        "`RuntimeError`, and changes nothing."},
     {"discard", file_discard, METH_NOARGS,
-        "discard($self, /)\n--\n\nDiscards all changes since the last commit, and ends each batch."},
+        "discard($self, /)\n--\n\n"
+        "Discards all changes since the last commit, and ends each batch."},
     {"close", file_close, METH_NOARGS,
         "close($self, /)\n--\n\n"
-        "Commits the changes, and closes the file. In another process than the one that opened it, it only closes it. "
-        "In\n"
-        "a batch that has not ended it discards the changes, and raises `RuntimeError`."},
+        "Commits the changes, and closes the file in any case. Commits nothing in a process that did not open\n"
+        "the file; in a batch, with a `RuntimeError`; and after a change or a commit that has failed, whose\n"
+        "exception it raises once more."},
     {"__enter__", file_enter, METH_NOARGS, NULL},
     {"__exit__", file_exit, METH_VARARGS, NULL},
     {NULL, NULL, 0, NULL},

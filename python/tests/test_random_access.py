@@ -1,21 +1,19 @@
-"""Random-access files: batches, locks and moved files, journals that are left, and file objects over them.
+"""Random-access files: batches, threads, signals, integers, and file objects over them.
 
-What a crash leaves is tested in c/tests/check_file.c, over the same engine.
+What a crash leaves, and owners, names and locks, are tested in c/tests, over the same engine.
 """
 
 import concurrent.futures
 import contextlib
 import copy
-import dis
+import errno
 import fcntl
-import functools
 import gc
 import io
-import itertools
 import os
 import pathlib
-import random
 import resource
+import shutil
 import signal
 import sys
 import tarfile
@@ -24,11 +22,12 @@ import threading
 import unittest
 import zipfile
 from collections.abc import Callable, Generator
-from typing import Any
+from typing import Any, Optional
 
-from hunkravy import Aegis128L, Aegis128X4, Aegis256, RandomAccessError, RandomAccessFile, _native, _random_access
+from hunkravy import Aegis128L, Aegis256, RandomAccessError, RandomAccessFile, _native, _random_access
 
 KEY = bytes(range(32))
+TABLE = pathlib.Path(__file__).parents[2] / "testkit" / "batches.txt"
 PAGE = 256
 
 
@@ -43,51 +42,68 @@ def limited(size: int) -> Generator[None, None, None]:
         resource.setrlimit(resource.RLIMIT_FSIZE, before)
 
 
-@functools.cache
-def places_after_calls(code: Any) -> set[int]:
-    """The offsets in a function after which Python calls handlers."""
-    found = list(dis.get_instructions(code))
-    return {after.offset for call, after in zip(found, found[1:]) if call.opname.startswith("CALL")}
-
-
-def interrupted_at(number: int, call: Callable[[], object], *files: str) -> bool:
-    """Makes a call, and raises KeyboardInterrupt in it where Python calls the handler of a signal: at the start of a function
-    and after a call, in these files, at the place of this number. Returns whether there is one.
-    """
-    seen = 0
-
-    def at_a_place() -> None:
-        nonlocal seen
-        seen += 1
-        if seen == number:
-            sys.settrace(None)
-            raise KeyboardInterrupt
-
-    def trace(frame: Any, event: str, argument: Any) -> Any:
-        code = frame.f_code
-        if not code.co_filename.endswith(files):
-            return None
-        frame.f_trace_lines, frame.f_trace_opcodes = False, True
-        if event == "call":
-            at_a_place()
-        elif event == "opcode" and frame.f_lasti in places_after_calls(code):
-            at_a_place()
-        return trace
-
-    sys.settrace(trace)
-    try:
-        call()
-    except KeyboardInterrupt:
-        pass
-    finally:
-        sys.settrace(None)
-    return seen >= number
-
-
 def contents(path: Any, key: bytes = KEY) -> Any:
     """Opens a file, and returns its contents."""
     with RandomAccessFile(path, key) as file:
         return file.read_at(0, file.size)
+
+
+class Scene:
+    """A scene of testkit/batches.txt."""
+
+    def __init__(self, path: pathlib.Path) -> None:
+        self.path = path
+        self.file = RandomAccessFile.create(path, KEY)
+        # Those that no line has named, and the one that was named last.
+        self.batches: list[Any] = []
+        self.ended: Any = None
+
+    def play(self, lines: list[list[str]]) -> None:
+        is_full = False
+        for call, *words in lines:
+            if call.endswith("room"):
+                is_full = call == "no-room"
+                continue
+            with limited(0) if is_full and call != "stored" else contextlib.nullcontext():
+                found = self.result_of(call, words[:-1])
+            if found != words[-1]:
+                raise AssertionError(f"{lines}: {call} {words}: {found}")
+
+    def result_of(self, call: str, words: list[str]) -> str:
+        """Makes a call, and returns the name of its result."""
+        try:
+            return self.made(call, words) or "ok"
+        except RandomAccessError as error:
+            return error.cause.replace("_", "-")
+        except RuntimeError as error:
+            return {"a batch has not ended": "open-batch"}.get(str(error), "wrong-state")
+        except OSError as error:
+            return "no-room" if error.errno in (errno.EFBIG, errno.ENOSPC) else str(error)
+
+    def made(self, call: str, words: list[str]) -> Optional[str]:
+        if call == "begin":
+            batch = self.file.batch()
+            batch.__enter__()
+            self.batches.append(batch)
+        elif call.startswith(("end", "undo")):
+            self.ended = self.batches.pop(0 if "outer" in call else -1) if self.batches else self.ended
+            self.ended.__exit__(ValueError if call.startswith("undo") else None, None, None)
+        elif call == "write":
+            self.file.write_at(int(words[0]), bytes.fromhex(words[1].replace("-", "")))
+        elif call == "truncate":
+            self.file.truncate(int(words[0]))
+        elif call == "contents":
+            return self.file.read_at(0, self.file.size).hex() or "-"
+        elif call == "stored":
+            copied = self.path.with_name(self.path.name + "-copy")
+            for end in ("", ".journal"):
+                pathlib.Path(f"{copied}{end}").unlink(missing_ok=True)
+                if os.path.exists(f"{self.path}{end}"):
+                    shutil.copyfile(f"{self.path}{end}", f"{copied}{end}")
+            return contents(copied).hex() or "-"
+        else:
+            getattr(self.file, call)()
+        return None
 
 
 class Files(unittest.TestCase):
@@ -95,16 +111,13 @@ class Files(unittest.TestCase):
         self.folder = pathlib.Path(self.enterContext(tempfile.TemporaryDirectory()))
         self.path = self.folder / "file"
 
-    def leave_journal(self, path: pathlib.Path, data: bytes = b"after", limit: int = 65_536) -> None:
-        """Changes the end of a long file, and lets the system stop the commit at this size of files.
-
-        The pages are behind it. The journal is whole, if it is not.
-        """
+    def leave_journal(self, path: pathlib.Path) -> None:
+        """Changes the end of a long file, and lets the system stop the commit there, after it has written its journal."""
         file = RandomAccessFile(path, KEY)
         file.truncate(200_000)
         file.commit()
-        file.write_at(file.size - len(data), data)
-        with limited(limit):
+        file.write_at(file.size - 5, b"after")
+        with limited(65_536):
             self.assertRaises(OSError, file.commit)
         self.assertCause("broken", file.write_at, 0, b"lost")
         file.close()
@@ -114,37 +127,6 @@ class Files(unittest.TestCase):
             call(*arguments, **named)
         self.assertEqual(raised.exception.cause, cause)
         self.assertEqual(str(raised.exception), _random_access.CAUSES[cause].format(raised.exception.page))
-
-    def test_random_calls(self) -> None:
-        for variant, page_size in ((Aegis256, None), (Aegis128L, 256), (Aegis128X4, None)):
-            with self.subTest(variant=variant.name):
-                self.path = self.folder / variant.name
-                key = os.urandom(variant.KEY_BYTES)
-                self.check_calls(variant, key, page_size, random.Random(7))
-
-    def check_calls(self, variant: Any, key: Any, page_size: Any, numbers: Any) -> Any:
-        model = bytearray()
-        file = RandomAccessFile.create(self.path, key, cipher=variant, page_size=page_size)
-        for _ in range(400):
-            kind, place = numbers.randrange(8), numbers.randrange(20_000)
-            if kind < 4:
-                data = numbers.randbytes(numbers.randrange(3000))
-                self.assertEqual(file.write_at(place, data), len(data))
-                if data or place > len(model):
-                    model.extend(bytes(max(place - len(model), 0)))
-                    model[place : place + len(data)] = data
-            elif kind == 4:
-                file.truncate(place)
-                model[place:] = bytes(max(place - len(model), 0))
-            elif kind == 5:
-                file.commit()
-            elif kind == 6:
-                file.close()
-                file = RandomAccessFile(self.path, key, cipher=variant)
-            place, length = numbers.randrange(25_000), numbers.randrange(5000)
-            self.assertEqual(file.size, len(model))
-            self.assertEqual(file.read_at(place, length), model[place : place + length])
-        file.close()
 
     def test_a_path_in_bytes(self) -> None:
         RandomAccessFile.create(os.fsencode(self.path), KEY).close()  # type: ignore[arg-type]
@@ -181,80 +163,17 @@ class Files(unittest.TestCase):
         del file
         self.assertEqual(contents(self.path), b"first, second")
 
-    def test_a_batch_that_ends_before_one_in_it(self) -> None:
-        with RandomAccessFile.create(self.path, KEY) as file:
-            file.write_at(0, b"kept")
-            with self.assertRaisesRegex(RuntimeError, "has not ended"), file.batch():
-                file.write_at(0, b"lost")
-                inner = file.batch()
-                inner.__enter__()
-            # Both have ended, and are undone.
-            self.assertRaisesRegex(RuntimeError, "has ended", inner.__exit__, None, None, None)
-            self.assertEqual(file.read_at(0, 9), b"kept")
-        self.assertEqual(contents(self.path), b"kept")
-
-    def test_a_batch_that_fails_before_those_in_it_have_ended(self) -> None:
-        with RandomAccessFile.create(self.path, KEY) as file:
-            file.write_at(0, b"before")
-            left_open = []
-            with self.assertRaises(ZeroDivisionError), file.batch():
-                for change in (b"lost", b"lost too"):
-                    left_open.append(file.batch())
-                    left_open[-1].__enter__()
-                    file.write_at(0, change)
-                    file.truncate(3)
-                1 / 0
-            self.assertEqual(file.read_at(0, 99), b"before")
-            for batch in left_open:
-                self.assertRaisesRegex(RuntimeError, "has ended", batch.__exit__, None, None, None)
-        self.assertEqual(contents(self.path), b"before")
-
-    def test_signals_in_batches_in_others(self) -> None:
-        places = (0, 1000)
-
-        def change(file: RandomAccessFile) -> None:
-            with file.batch():
-                for place in places:
-                    with file.batch():
-                        file.write_at(place, b"after.")
-
-        for number in itertools.count(1):
-            path = self.path.with_name(str(number))
-            file = RandomAccessFile.create(path, KEY, page_size=PAGE)
-            with file.batch():
-                for place in places:
-                    file.write_at(place, b"before")
-            was_interrupted = interrupted_at(number, lambda: change(file), "test_random_access.py", "_random_access.py")
-            self.assertFalse(file._is_in_batch)
-            file.close()
-            with RandomAccessFile(path, KEY) as file:
-                self.assertEqual(len({file.read_at(place, 6) for place in places}), 1, number)
-            if not was_interrupted:
-                break
-        self.assertGreater(number, 10)
-
-    def test_a_journal_that_is_no_file(self) -> None:
-        journal = self.path.with_name(self.path.name + ".journal")
-        with RandomAccessFile.create(self.path, KEY) as file:
-            file.write_at(0, b"kept")
-            os.mkfifo(journal)
-            self.assertRaises(OSError, file.commit)
-            self.assertTrue(journal.is_fifo())
-            journal.unlink()
-        os.mkfifo(journal)
-        self.assertRaises(OSError, RandomAccessFile, self.path, KEY)
-        journal.unlink()
-        self.assertEqual(contents(self.path), b"kept")
-
-    def test_a_copy_of_a_journal_that_cannot_replace_it(self) -> None:
-        left = pathlib.Path(f"{self.path}.jrncopy")
-        RandomAccessFile.create(self.path, KEY).close()
-        self.leave_journal(self.path)
-        left.mkdir()
-        self.assertRaises(OSError, RandomAccessFile, self.path, KEY)
-        left.rmdir()
-        self.assertEqual(contents(self.path)[-5:], b"after")
-        self.assertFalse(left.exists())
+    def test_the_table_of_batches(self) -> None:
+        scenes: list[list[list[str]]] = []
+        for line in TABLE.read_text().splitlines():
+            if line.startswith("["):
+                scenes.append([])
+            elif line and not line.startswith("#"):
+                scenes[-1].append(line.split())
+        self.assertGreater(len(scenes), 20)
+        for number, scene in enumerate(scenes):
+            with self.subTest(number=number):
+                Scene(self.folder / str(number)).play(scene)
 
     def test_a_journal_of_another_file(self) -> None:
         RandomAccessFile.create(self.path, KEY).close()
@@ -269,13 +188,6 @@ class Files(unittest.TestCase):
         (self.folder / "other.journal").write_bytes(journal[:512])
         self.assertEqual(contents(other), b"")
 
-    def test_a_torn_journal(self) -> None:
-        RandomAccessFile.create(self.path, KEY).close()
-        self.leave_journal(self.path, b"after" * 4000, limit=16_384)
-        self.assertEqual((self.folder / "file.journal").stat().st_size, 16_384)
-        self.assertEqual(contents(self.path), bytes(200_000))
-        self.assertEqual(os.listdir(self.folder), ["file"])
-
     def test_a_batch_that_is_left_open(self) -> None:
         with RandomAccessFile.create(self.path, KEY) as file:
             file.write_at(0, b"before")
@@ -287,6 +199,12 @@ class Files(unittest.TestCase):
             self.assertRaisesRegex(RuntimeError, "has not ended", file.commit)
             file.discard()
             self.assertEqual(file.read_at(0, 9), b"before")
+            # Its block goes on, so a change in it would be in no batch.
+            calls: list[Callable[[], object]] = [file.commit, file.batch().__enter__]
+            calls += [lambda: file.write_at(0, b"x"), lambda: file.truncate(0)]
+            for call in calls:
+                self.assertRaisesRegex(RuntimeError, "batch of this block has ended", call)
+            del batch
             ended = file.batch()
             with ended:
                 file.write_at(0, b"after ")
@@ -298,6 +216,41 @@ class Files(unittest.TestCase):
         self.assertRaisesRegex(RuntimeError, "has not ended", file.close)
         self.assertTrue(file.closed)
         self.assertEqual(contents(self.path), b"after ")
+
+    def test_signals(self) -> None:
+        """A call that a handler's exception comes in is made whole, and an opening leaves no descriptor."""
+
+        class Interrupt(Exception):
+            pass
+
+        def interrupt(*_: object) -> None:
+            if is_interrupted:
+                raise Interrupt
+
+        RandomAccessFile.create(self.path, KEY).close()
+        descriptors, before = len(os.listdir("/proc/self/fd")), b""
+        previous = signal.signal(signal.SIGALRM, interrupt)
+        interrupts = 0
+        try:
+            for turn in range(120):
+                data, is_interrupted = bytes([turn % 256]) * 300_000, True
+                try:
+                    signal.setitimer(signal.ITIMER_REAL, 0.0001 * 1.25 ** (turn % 30))
+                    with RandomAccessFile(self.path, KEY) as file:
+                        file.write_at(0, data)
+                    is_interrupted = False
+                except Interrupt:
+                    interrupts += 1
+                signal.setitimer(signal.ITIMER_REAL, 0)
+                file = None  # type: ignore[assignment]
+                self.assertIn(contents(self.path), (before, data))
+                before = contents(self.path)
+        finally:
+            signal.setitimer(signal.ITIMER_REAL, 0)
+            signal.signal(signal.SIGALRM, previous)
+        self.assertGreater(interrupts, 10)
+        self.assertLess(interrupts, 120)
+        self.assertEqual(len(os.listdir("/proc/self/fd")), descriptors)
 
     def test_batches_keep_no_file(self) -> None:
         # What earlier tests have left.
@@ -325,19 +278,6 @@ class Files(unittest.TestCase):
             gc.collect()
             self.assertEqual(contents(self.path), b"")
 
-    def test_a_commit_and_a_discard_in_a_batch(self) -> None:
-        with RandomAccessFile.create(self.path, KEY) as file:
-            file.write_at(0, b"committed")
-            file.commit()
-            with self.assertRaisesRegex(RuntimeError, "has not ended"), file.batch():
-                file.write_at(0, b"lost")
-                file.commit()
-            self.assertEqual(file.read_at(0, 20), b"committed")
-            with self.assertRaisesRegex(RuntimeError, "has ended"), file.batch():
-                file.write_at(9, b", lost")
-                file.discard()
-        self.assertEqual(contents(self.path), b"committed")
-
     def test_locks_and_moves(self) -> None:
         file = RandomAccessFile.create(self.path, KEY)
         self.assertCause("locked", RandomAccessFile, self.path, KEY)
@@ -347,29 +287,9 @@ class Files(unittest.TestCase):
         self.path.rename(self.folder / "moved")
         self.assertCause("moved", file.commit)
         (self.folder / "moved").rename(self.path)
-        os.link(self.path, self.folder / "link")
-        self.assertCause("moved", file.commit)
-        (self.folder / "link").unlink()
+        file.commit()
         file.close()
         self.assertEqual(contents(self.path), b"kept")
-        os.link(self.path, self.folder / "link")
-        self.assertCause("moved", RandomAccessFile, self.path, KEY)
-
-    def test_another_process(self) -> None:
-        file = RandomAccessFile.create(self.path, KEY)
-        file.write_at(0, b"of the parent")
-        child = os.fork()
-        if child == 0:
-            try:
-                file.read_at(0, 1)
-            except RandomAccessError as error:
-                file.close()
-                os._exit(0 if error.cause == "locked" else 1)
-            os._exit(2)
-        self.assertEqual(os.waitpid(child, 0)[1], 0)
-        self.assertCause("locked", RandomAccessFile, self.path, KEY)
-        file.close()
-        self.assertEqual(contents(self.path), b"of the parent")
 
     def test_a_fork_while_another_thread_is_in_a_batch(self) -> None:
         def hold() -> None:
@@ -410,23 +330,12 @@ class Files(unittest.TestCase):
             next(second)
             self.assertRaises(ZeroDivisionError, first.throw, ZeroDivisionError)
             self.assertEqual(file.size, 0)
-            # It was undone with the one that it was in, and what it still writes is in none.
-            self.assertRaisesRegex(RuntimeError, "has ended", next, second)
-            self.assertEqual(file.read_at(0, 99), bytes(12) + b"half")
-
-    def test_a_close_in_a_process_that_was_forked(self) -> None:
-        file = RandomAccessFile.create(self.path, KEY)
-        reader, writer = os.pipe()
-        child = os.fork()
-        if child == 0:
-            os.close(writer)
-            os.read(reader, 1)
-            os._exit(0)
-        file.close()
-        RandomAccessFile(self.path, KEY).close()
-        os.close(writer)
-        os.close(reader)
-        self.assertEqual(os.waitpid(child, 0)[1], 0)
+            # It was undone with the one that it was in.
+            self.assertRaisesRegex(RuntimeError, "batch of this block has ended", next, second)
+            self.assertEqual(file.size, 0)
+            with file.batch():
+                file.write_at(0, b"after")
+        self.assertEqual(contents(self.path), b"after")
 
     def test_a_file_that_is_being_created(self) -> None:
         """Whoever has just created it locks it next, and must not find it locked."""
@@ -458,15 +367,45 @@ class Files(unittest.TestCase):
 
     def test_arguments(self) -> None:
         with RandomAccessFile.create(self.path, KEY) as file:
-            self.assertRaises(ValueError, file.read_at, -1, 1)
-            self.assertRaises(ValueError, file.read_at, 1, -1)
-            self.assertRaises(ValueError, file.truncate, -1)
-            self.assertRaises(ValueError, file.write_at, -1, b"")
-            self.assertCause("too_long", file.write_at, 1 << 60, b"x")
-            self.assertEqual(file.read_at(1 << 61, 5), b"")
+            file.write_at(0, b"contents")
+            calls: list[Callable[[Any], object]] = [lambda each: file.read_at(each, 1), lambda each: file.read_at(0, each)]
+            calls += [lambda each: file.write_at(each, b""), file.truncate, lambda each: file._read_into(each, bytearray(1))]
+            for call in calls:
+                for wrong in (-1, -(1 << 32) + 4000, -(1 << 63), -(1 << 64)):
+                    self.assertRaises(ValueError, call, wrong)
+                self.assertRaises(OverflowError, call, 1 << 64)
+                self.assertRaises(TypeError, call, 1.0)
+            self.assertEqual((file.read_at((1 << 64) - 1, 5), file.read_at(0, (1 << 64) - 1)), (b"", b"contents"))
+            for place in (1 << 60, (1 << 64) - 1):
+                self.assertCause("too_long", file.write_at, place, b"x")
+            self.assertCause("too_long", file.truncate, (1 << 60) + 1)
         self.assertRaises(ValueError, file.read_at, 0, 1)
-        self.assertRaises(ValueError, RandomAccessFile.create, self.folder / "new", KEY, page_size=255)
-        self.assertEqual(os.listdir(self.folder), ["file"])
+
+    def test_page_sizes_and_variants(self) -> None:
+        wrong = (-(1 << 32) + 4000, -1, 0, 255, 65_537, 1 << 32, (1 << 32) + 4000, (1 << 64) - 1, 1 << 64, (1 << 64) + 4000)
+        for size in wrong:
+            with self.assertRaises((ValueError, OverflowError), msg=str(size)):
+                RandomAccessFile.create(self.path, KEY, page_size=size)
+        for variant in (-1, 6, (1 << 32) + 3, (1 << 64) - 1, 1 << 64, (1 << 64) + 3):
+            cipher: Any = type("Other", (Aegis256,), {"_VARIANT": variant})
+            with self.assertRaises((TypeError, ValueError, OverflowError), msg=str(variant)):
+                RandomAccessFile.create(self.path, KEY, cipher=cipher)
+            with self.assertRaises((TypeError, ValueError, OverflowError), msg=str(variant)):
+                _native.Cipher(variant, KEY, 32)
+        self.assertEqual(os.listdir(self.folder), [])
+        for size in (256, 65_536):
+            RandomAccessFile.create(self.folder / str(size), KEY, page_size=size).close()
+
+    def test_an_empty_write(self) -> None:
+        """It extends the contents, as `truncate` does. The position of a stream is its own, also after a batch that fails."""
+        with RandomAccessFile.create(self.path, KEY) as file:
+            file.write_at(3, b"")
+            self.assertEqual(file.read_at(0, 9), bytes(3))
+            stream = file.open_stream()
+            with contextlib.suppress(ZeroDivisionError), file.batch():
+                stream.write(b"lost")
+                1 / 0
+            self.assertEqual((stream.tell(), file.size), (4, 3))
 
     def test_a_full_disk(self) -> None:
         file = RandomAccessFile.create(self.path, KEY)
@@ -475,24 +414,13 @@ class Files(unittest.TestCase):
             self.assertRaises(OSError, file.commit)
         self.assertEqual(os.listdir(self.folder), ["file"])
         self.assertEqual(file.read_at(0, 9000), bytes(9000))
-        file.close()
+        file.commit()
+        self.assertEqual(file.write_at(0, b"lost"), 4)
+        with limited(0):
+            self.assertRaises(OSError, file.commit)
+        # Closing raises the error once more, and commits nothing.
+        self.assertRaises(OSError, file.close)
         self.assertEqual(contents(self.path), bytes(9000))
-
-    def test_the_journal(self) -> None:
-        """It has the permissions of the file. One that others may write, or that is a link, is left alone."""
-        RandomAccessFile.create(self.path, KEY).close()
-        self.path.chmod(0o640)
-        self.leave_journal(self.path)
-        journal = self.folder / "file.journal"
-        self.assertEqual(journal.stat().st_mode & 0o777, 0o640)
-        journal.chmod(0o666)
-        self.assertRaises(OSError, RandomAccessFile, self.path, KEY)
-        journal.chmod(0o600)
-        journal.rename(self.folder / "elsewhere")
-        journal.symlink_to(self.folder / "elsewhere")
-        self.assertRaises(OSError, RandomAccessFile, self.path, KEY)
-        (self.folder / "elsewhere").rename(journal)
-        self.assertEqual(contents(self.path)[-5:], b"after")
 
     def test_threads(self) -> None:
         def work(number: Any) -> Any:
@@ -542,7 +470,8 @@ class Files(unittest.TestCase):
             with zipfile.ZipFile(file.open_stream()) as archive:
                 self.assertEqual(archive.read("member"), member)
             with file.open_stream() as stream:
-                self.assertEqual((stream.seek(-3, os.SEEK_END), stream.read(9), stream.tell()), (file.size - 3, stream_end(file), file.size))
+                expected = (file.size - 3, file.read_at(file.size - 3, 3), file.size)
+                self.assertEqual((stream.seek(-3, os.SEEK_END), stream.read(9), stream.tell()), expected)
                 self.assertRaises(OSError, stream.seek, -1)
                 self.assertEqual((stream.seek(0), stream.read(0), stream.readinto(bytearray())), (0, b"", 0))
                 self.assertRaises(TypeError, stream.readinto, b"")
@@ -556,10 +485,6 @@ class Files(unittest.TestCase):
         with RandomAccessFile.create(self.path, KEY) as file:
             for each in (file, file.open_stream()):
                 self.assertRaises(TypeError, copy.copy, each)
-
-
-def stream_end(file: Any) -> Any:
-    return file.read_at(file.size - 3, 3)
 
 
 if __name__ == "__main__":
