@@ -38,7 +38,6 @@
 //! functions of the library encrypt and decrypt each page and each header, and authenticate a journal. Reading and writing
 //! files around them is tested against the proved crate, and not proved.
 
-mod algorithm;
 mod batch;
 mod builder;
 mod changes;
@@ -54,15 +53,15 @@ mod recovery;
 mod rng;
 mod system;
 
-pub use algorithm::{
-    Aegis128L, Aegis128X2, Aegis128X4, Aegis256, Aegis256X2, Aegis256X4, Algorithm, AlgorithmId,
-};
+pub use crate::Variant as Algorithm;
+pub use crate::variants::{Aegis128L, Aegis128X2, Aegis128X4, Aegis256, Aegis256X2, Aegis256X4};
+pub use batch::Batch;
 pub use builder::RafBuilder;
 pub use cursor::RafCursor;
 pub use derive::derive_key;
 pub use error::{Error, Result};
 pub use io::{Beside, FileIo, JournalChoice, JournalFile, NoJournal, RafIo};
-pub use probe::{RafInfo, probe};
+pub use probe::{AlgorithmId, RafInfo, probe};
 #[cfg(not(feature = "raf"))]
 pub use rng::NoRng;
 #[cfg(feature = "raf")]
@@ -70,6 +69,7 @@ pub use rng::OsRng;
 use rng::checked_nonce;
 pub use rng::{DefaultRng, RafRng};
 
+use crate::exports::hunkravy_commit_step;
 use crate::memory::{check_memory, with_room, zeros};
 use crate::wipe::wipe;
 use alloc::vec::Vec;
@@ -77,7 +77,7 @@ use changes::{Changes, SealedChanges, copy_of};
 use core::fmt;
 use core::iter::once;
 use core::ops::Range;
-use journal::PendingWrite;
+use journal::{Neighbours, PendingWrite, Work};
 use layout::{HEADER_BLOCK_BYTES, Layout};
 use std::io::ErrorKind;
 #[cfg(feature = "raf")]
@@ -141,11 +141,8 @@ pub struct Raf<A: Algorithm, I: RafIo = FileIo, R: RafRng = DefaultRng, J: RafIo
     is_broken: bool,
     /// The process that opened it.
     owner: Process,
-    /// The number of the batch that it is in, or was in before it was moved elsewhere.
-    batch: u64,
-    /// Whether a change has failed since the last commit, so that those in memory may be a part of what was to be
-    /// committed.
-    is_cut_short: bool,
+    /// Why a change has failed since the last commit: those in memory may be a part of what was to be committed.
+    failure: Option<Error>,
 }
 
 #[cfg(feature = "raf")]
@@ -239,13 +236,10 @@ impl<A: Algorithm, I: RafIo, R: RafRng, J: RafIo> Raf<A, I, R, J> {
     ///   [`OutOfMemory`](std::io::ErrorKind::OutOfMemory) if memory runs out): nothing has changed.
     /// - An error of [`commit`](Raf::commit), which documents the state. With a limit of `usize::MAX` no write commits.
     pub fn write(&mut self, data: &[u8], offset: u64) -> Result<usize> {
-        // It stays so if the change fails, or if a panic ends it.
-        let was_cut_short = core::mem::replace(&mut self.is_cut_short, true);
-        self.change(data, offset)?;
-        self.is_cut_short = was_cut_short;
+        self.try_to(|file| file.change(data, offset))?;
         let chunk_size = self.layout.chunk_size as usize;
-        let changed = self.changes.0.len().saturating_mul(chunk_size);
-        if changed > self.buffer_limit && !self.is_in_batch() {
+        let changed = self.changes.count().saturating_mul(chunk_size);
+        if changed > self.buffer_limit && !self.changes.is_in_batch() {
             self.commit()?;
         }
         Ok(data.len())
@@ -298,10 +292,18 @@ impl<A: Algorithm, I: RafIo, R: RafRng, J: RafIo> Raf<A, I, R, J> {
             return Ok(());
         }
         self.check_is_usable()?;
-        let count = self.layout.page_count(size);
-        self.changes.0.retain(|number, _| *number < count);
+        self.try_to(|file| Ok(file.changes.truncate(file.layout.page_count(size))?))?;
         self.size = size;
         Ok(())
+    }
+
+    /// Makes a change or a commit. If it fails or panics, dropping and closing commit nothing until a commit succeeds.
+    fn try_to(&mut self, done: impl FnOnce(&mut Self) -> Result<()>) -> Result<()> {
+        let panicked = Error::Io(ErrorKind::Other.into());
+        let before = self.failure.replace(panicked);
+        let result = done(self);
+        self.failure = result.as_ref().err().map(Error::again).or(before);
+        result
     }
 
     /// Writes all changes since the last commit. After a crash all of them are there, or none. After `Ok` all of them are there.
@@ -315,14 +317,14 @@ impl<A: Algorithm, I: RafIo, R: RafRng, J: RafIo> Raf<A, I, R, J> {
     /// - [`Error::Broken`], [`Error::Locked`] after a fork, [`Error::Moved`], [`Error::TooLong`], [`Error::Journal`] if another
     ///   file has the name of the journal, or an error of the source of random bytes. The changes are still in memory, and only
     ///   the size of the file may have changed.
-    /// - [`Error::Io`] of reading the file, its path or a size, of reserving room, for example on a full disk, of making the
-    ///   journal, or for want of memory: as above.
+    /// - [`Error::Io`] before anything is written to the file, for example on a full disk, or if memory runs out: as above, if
+    ///   the journal could be emptied.
     /// - After any other [`Error::Io`] the file is broken. Open it again: with a journal it has the contents before the changes or
     ///   after them.
     pub fn commit(&mut self) -> Result<()> {
-        self.is_cut_short = true;
-        self.commit_all()?;
-        self.is_cut_short = self.is_in_batch();
+        self.try_to(Self::commit_all)?;
+        self.changes.clear();
+        self.failure = None;
         Ok(())
     }
 
@@ -331,13 +333,13 @@ impl<A: Algorithm, I: RafIo, R: RafRng, J: RafIo> Raf<A, I, R, J> {
         if !self.owner.is_this() {
             return Err(Error::Locked);
         }
-        if self.changes.0.is_empty() && self.size == self.stored {
+        let numbers = self.changes.numbers()?;
+        if numbers.is_empty() && self.size == self.stored {
             return Ok(());
         }
         let counter = self.counter.checked_add(1).ok_or(Error::TooLong)?;
         let header = recovery::read_header_block(&mut self.io)?;
         let header = header.ok_or(Error::Io(ErrorKind::UnexpectedEof.into()))?;
-        let numbers = self.changes.numbers()?;
         let nonces = self.nonces(numbers.len() + 1)?;
         let (size, nonce) = (self.size, &nonces[numbers.len()]);
         let next_header = self.layout.header(counter, size, nonce);
@@ -357,8 +359,8 @@ impl<A: Algorithm, I: RafIo, R: RafRng, J: RafIo> Raf<A, I, R, J> {
     ) -> Result<()> {
         let mut nonce = [0; journal::NONCE_BYTES];
         self.rng.fill(&mut nonce)?;
-        let seal = self.layout.journal(&nonce);
-        let mut buffer = journal::buffer()?;
+        let mut seal = self.layout.journal(&nonce);
+        let neighbours = Neighbours::with_room(journal::MOST_BYTES)?;
         let mut writes = with_room(numbers.len() + headers.len())?;
         let sealed = SealedChanges::new(&self.layout, &mut self.changes, numbers, nonces);
         let [first, last] = headers.map(|bytes| PendingWrite { place: 0, bytes });
@@ -378,9 +380,19 @@ impl<A: Algorithm, I: RafIo, R: RafRng, J: RafIo> Raf<A, I, R, J> {
         if self.journal.get_size()? != 0 {
             return Err(Error::Journal);
         }
+        let mut work = Work {
+            io: &mut self.io,
+            journal: &mut self.journal,
+            writes: &writes,
+            state: &mut seal.state,
+            bytes: &seal.start,
+            neighbours,
+            is_begun: false,
+        };
         self.is_broken = true;
-        journal::commit(&mut self.io, &mut self.journal, seal, &writes, &mut buffer)?;
-        self.is_broken = false;
+        let taken = work.take_steps(hunkravy_commit_step);
+        self.is_broken = taken.is_err() && !work.undo();
+        taken?;
         drop(writes);
         sealed.forget();
         Ok(())
@@ -399,20 +411,24 @@ impl<A: Algorithm, I: RafIo, R: RafRng, J: RafIo> Raf<A, I, R, J> {
     ///
     /// # Errors
     ///
-    /// Those of [`commit`](Raf::commit). Changes that are only in memory are then lost.
+    /// - That of a change or a commit that has failed, unless a commit or [`discard`](Raf::discard) came after it.
+    /// - Those of [`commit`](Raf::commit).
+    ///
+    /// The changes in memory are then lost.
     pub fn close(mut self) -> Result<()> {
-        let committed = self.commit();
-        // Dropping it does not commit once more.
-        self.is_cut_short = true;
-        committed
+        self.check_is_usable()?;
+        match &self.failure {
+            Some(error) => Err(error.again()),
+            None => self.commit(),
+        }
     }
 
     /// Discards all changes since the last commit.
     pub fn discard(&mut self) {
         self.shown = 0..0;
-        self.changes.0.clear();
+        self.changes.clear();
         self.size = self.stored;
-        self.is_cut_short = self.is_in_batch();
+        self.failure = None;
     }
 
     /// Returns a cursor at the start of the contents, which is `Read`, `Write` and `Seek`.
@@ -449,7 +465,7 @@ impl<A: Algorithm, I: RafIo, R: RafRng, J: RafIo> Raf<A, I, R, J> {
     /// page comes alone. Others are read in one call, up to the next changed one.
     fn read_pages(&mut self, number: u64, most: u64) -> Result<usize> {
         let page_bytes = self.layout.page_bytes();
-        if let Some(page) = self.changes.0.get(&number) {
+        if let Some(page) = self.changes.get(number) {
             self.pages[..page_bytes].copy_from_slice(&page.0);
             return Ok(1);
         }
@@ -508,7 +524,7 @@ impl<A: Algorithm, I: RafIo, R: RafRng, J: RafIo> Raf<A, I, R, J> {
 /// that which opened the file does nothing.
 impl<A: Algorithm, I: RafIo, R: RafRng, J: RafIo> Drop for Raf<A, I, R, J> {
     fn drop(&mut self) {
-        if !self.is_cut_short && !std::thread::panicking() {
+        if self.failure.is_none() && !std::thread::panicking() {
             let _ = self.commit();
         }
         wipe(&mut self.pages);

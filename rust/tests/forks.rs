@@ -13,8 +13,6 @@ use std::fs;
 use std::io::{Read, Write};
 use std::panic::{AssertUnwindSafe, catch_unwind};
 use std::rc::Rc;
-use std::sync::atomic::{AtomicBool, Ordering::SeqCst};
-use std::thread;
 use support::{Folder, KEY, Source, outcome};
 
 // SAFETY: they are declared as in `unistd.h` and `sys/wait.h`.
@@ -22,7 +20,6 @@ unsafe extern "C" {
     fn fork() -> c_int;
     fn waitpid(process: c_int, status: *mut c_int, options: c_int) -> c_int;
     safe fn _exit(status: c_int) -> !;
-    safe fn alarm(seconds: u32) -> u32;
 }
 
 /// Makes a child, and returns 0 in it.
@@ -173,38 +170,6 @@ fn the_end_of_a_batch_in_a_child() {
     }
     assert!(succeeds(process));
     assert_eq!(bytes(&folder), before);
-}
-
-/// Does something in a child, or in a child of a child, and so on. Returns whether it returned true there.
-fn is_so_after_forks(forks: u32, done: &dyn Fn() -> bool) -> bool {
-    match forks {
-        0 => done(),
-        _ => is_so_in_a_child(|| is_so_after_forks(forks - 1, done)),
-    }
-}
-
-/// A child makes batches in files of its own, also if another thread was at the list of batches during the fork.
-#[test]
-fn a_batch_of_a_child_alone() {
-    let is_over = AtomicBool::new(false);
-    thread::scope(|scope| {
-        scope.spawn(|| {
-            let (mut file, _folder, _) = file();
-            while !is_over.load(SeqCst) {
-                file.batch(|_| Ok::<_, Error>(())).unwrap();
-            }
-        });
-        let is_made = || {
-            // It ends by a signal if it waits for ever.
-            alarm(100);
-            let (mut file, _folder, _) = file();
-            file.batch(|file| file.write(b"x", 0)).is_ok()
-        };
-        let mut generations = [1; 200].into_iter().chain([16; 40]);
-        let are_made = generations.all(|forks| is_so_after_forks(forks, &is_made));
-        is_over.store(true, SeqCst);
-        assert!(are_made);
-    });
 }
 
 /// A storage that was opened before the fork shares its lock with the child, which therefore cannot lock it.

@@ -2,13 +2,11 @@
 
 use super::changes::Changes;
 use super::io::{Beside, FileIo, JournalChoice, JournalFile, RafIo};
-use super::journal::empty;
 use super::layout::{ID_BYTES, Layout, PageHeader, is_chunk_size};
 use super::recovery::recover;
 use super::rng::{DefaultRng, RafRng, checked_nonce};
 use super::system::Process;
 use super::{Algorithm, Error, Raf, Result, default_chunk_size};
-use alloc::vec::Vec;
 use core::fmt;
 use core::marker::PhantomData;
 use std::io;
@@ -132,9 +130,7 @@ impl<A: Algorithm, R: RafRng, J: JournalChoice> RafBuilder<A, R, J> {
         io.lock()?;
         builder.journal.lock()?;
         let header = recover::<A>(&mut io, &mut builder.journal, key)?;
-        let layout = Layout::of(key, &header);
-        let (pages, owner) = (layout.room_for_reads()?, Process::this()?);
-        Ok(builder.over(io, layout, pages, owner, &header))
+        builder.over(io, key, &header)
     }
 
     /// Creates a file at a path. The file, its header and its name are then synced.
@@ -226,45 +222,38 @@ impl<A: Algorithm, R: RafRng, J: JournalChoice> RafBuilder<A, R, J> {
             id,
             ..PageHeader::default()
         };
-        let layout = Layout::of(key, &header);
-        let (pages, owner) = (layout.room_for_reads()?, Process::this()?);
-        let header_block = layout.header(0, 0, &nonce);
-        empty(&mut builder.journal)?;
-        io.set_size(0)?;
-        io.write_at(&header_block, 0)?;
-        io.sync()?;
-        io.check_path()?;
-        Ok(builder.over(io, layout, pages, owner, &header))
+        let mut file = builder.over(io, key, &header)?;
+        // Also if it is empty: after a sync that failed the disk may have its old bytes.
+        file.journal.set_size(0)?;
+        file.journal.sync()?;
+        file.io.set_size(0)?;
+        file.io.write_at(&file.layout.header(0, 0, &nonce), 0)?;
+        file.io.sync()?;
+        file.io.check_path()?;
+        Ok(file)
     }
 }
 
 impl<A: Algorithm, R: RafRng, J: RafIo> RafBuilder<A, R, J> {
     /// The open file that has this header.
-    fn over<I: RafIo>(
-        self,
-        io: I,
-        layout: Layout<A>,
-        pages: Vec<u8>,
-        owner: Process,
-        header: &PageHeader,
-    ) -> Raf<A, I, R, J> {
-        Raf {
+    fn over<I: RafIo>(self, io: I, key: &A::Key, header: &PageHeader) -> Result<Raf<A, I, R, J>> {
+        let layout = Layout::of(key, header);
+        Ok(Raf {
             io,
             journal: self.journal,
             rng: self.rng,
-            pages,
+            pages: layout.room_for_reads()?,
             shown: 0..0,
             layout,
             counter: header.counter,
             stored: header.contents_len,
             size: header.contents_len,
-            changes: Changes::default(),
+            changes: Changes::none()?,
             buffer_limit: self.buffer_limit,
             is_broken: false,
-            owner,
-            batch: 0,
-            is_cut_short: false,
-        }
+            owner: Process::this()?,
+            failure: None,
+        })
     }
 }
 

@@ -41,7 +41,7 @@ impl<A: Algorithm, I: RafIo, R: RafRng, J: RafIo> Write for RafCursor<'_, A, I, 
 
     /// Commits the changes with [`Raf::commit`]. In a [batch](Raf::batch) they wait for its end.
     fn flush(&mut self) -> io::Result<()> {
-        if self.file.is_in_batch() {
+        if self.file.changes.is_in_batch() {
             return Ok(self.file.check_is_usable()?);
         }
         Ok(self.file.commit()?)

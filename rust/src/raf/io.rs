@@ -82,6 +82,21 @@ pub trait RafIo {
         Ok(())
     }
 
+    /// Makes `bytes` all that it has, such that a crash leaves the old ones or these, and syncs them. It is called when a commit is
+    /// completed, with the bytes that a journal already has: after a [`sync`](RafIo::sync) that failed, the disk may not have them.
+    ///
+    /// The default writes them over the old ones, and syncs. It is for storages on which bytes that are written over themselves
+    /// survive a crash: one that may tear them must replace them in another way, for example by renaming a copy.
+    ///
+    /// # Errors
+    ///
+    /// The system's, for example on a full disk. Then it has the old bytes or the new ones.
+    fn replace(&mut self, bytes: &[u8]) -> io::Result<()> {
+        self.write_at(bytes, 0)?;
+        self.set_size(bytes.len() as u64)?;
+        self.sync()
+    }
+
     /// Locks the storage against all others, until it is dropped. It is called once, before anything is written, and before
     /// anything is read except the size.
     ///
@@ -593,6 +608,31 @@ impl RafIo for JournalFile {
     fn forget(&mut self) -> io::Result<()> {
         let file = self.open(false)?;
         file.map_or(Ok(()), |file| forget(file))
+    }
+
+    fn keeps_bytes(&self) -> bool {
+        self.path.is_some()
+    }
+
+    /// Renames a copy over the journal, which has the same owner, group and mode.
+    fn replace(&mut self, bytes: &[u8]) -> io::Result<()> {
+        let Some(path) = &self.path else {
+            return Ok(());
+        };
+        check_memory()?;
+        let copy = path.with_extension("jrncopy");
+        let _ = fs::remove_file(&copy);
+        let made = new_journal(&copy)?;
+        let synced = made.write_all_at(bytes, 0).and_then(|()| made.sync_all());
+        if let Err(error) = synced.and_then(|()| fs::rename(&copy, path)) {
+            // In a sticky folder it would keep out other users who may replace the journal.
+            let _ = fs::remove_file(&copy);
+            return Err(error);
+        }
+        self.file = Some(made);
+        sync_folder(path)?;
+        self.is_name_synced = true;
+        Ok(())
     }
 
     /// Makes the journal, which is empty unless another file has its name. An error if there can be none, or its name cannot be

@@ -3,11 +3,8 @@
 
 use crate::support::*;
 use hunkravy::raf::*;
-use std::fs::{self, Permissions};
-use std::os::unix::fs::{FileExt, MetadataExt, PermissionsExt, symlink};
-use std::os::unix::process::CommandExt;
-use std::path::Path;
-use std::process::Command;
+use std::fs;
+use std::os::unix::fs::{FileExt, symlink};
 use std::{env, io};
 
 type Done = fn(&Folder) -> io::Result<()>;
@@ -278,36 +275,6 @@ fn each_read_that_fails() {
 /// Names the path that a test is about which runs itself once more as another user.
 const PATH: &str = "HUNKRAVY_PATH";
 
-fn is_root() -> bool {
-    fs::metadata("/proc/self").unwrap().uid() == 0
-}
-
-fn allow(path: &Path, mode: u32) {
-    fs::set_permissions(path, Permissions::from_mode(mode)).unwrap();
-}
-
-/// Runs a test once more, in a folder of this mode, from a copy of this program that any user may run.
-fn run_as_another_user(folder: &Folder, mode: u32, test: &str, path: &Path) {
-    let program = folder.path("program");
-    if !program.exists() {
-        fs::copy(env::current_exe().unwrap(), &program).unwrap();
-    }
-    allow(&program, 0o755);
-    let mut command = Command::new(program);
-    command.args([test, "--exact"]).env(PATH, path);
-    if is_root() {
-        command.uid(65_534).gid(65_534);
-    }
-    allow(&folder.path(""), mode);
-    let output = command.output().unwrap();
-    allow(&folder.path(""), 0o755);
-    let printed = String::from_utf8_lossy(&output.stdout);
-    assert!(
-        output.status.success() && printed.contains("1 passed"),
-        "{mode:o} {printed}"
-    );
-}
-
 /// Another user cannot give a journal to the owner of the file beside it: that user could write it, and not the file. So it is
 /// removed. Only root can become another user.
 #[test]
@@ -327,7 +294,7 @@ fn a_journal_that_is_not_safe() {
     fs::write(folder.file(), "of root").unwrap();
     allow(&folder.file(), 0o600);
     let test = "attacks::a_journal_that_is_not_safe";
-    run_as_another_user(&folder, 0o777, test, &folder.journal());
+    run_as_another_user(&folder, 0o777, test, PATH, &folder.journal());
     assert_eq!(folder.names(), ["file", "program"]);
 }
 
@@ -354,7 +321,7 @@ fn a_folder_that_may_not_be_used() {
             allow(&folder.journal(), 0o666);
         }
         let test = "attacks::a_folder_that_may_not_be_used";
-        run_as_another_user(&folder, mode, test, &folder.file());
+        run_as_another_user(&folder, mode, test, PATH, &folder.file());
     }
     assert_eq!(fs::read(folder.file()).unwrap(), bytes);
     assert_eq!(fs::read(folder.journal()).unwrap(), b"");

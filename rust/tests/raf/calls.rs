@@ -2,7 +2,7 @@
 
 use crate::support::*;
 use hunkravy::raf::*;
-use std::cell::Cell;
+use std::cell::{Cell, RefCell};
 use std::error::Error as _;
 use std::io;
 use std::panic::{AssertUnwindSafe, catch_unwind};
@@ -145,6 +145,7 @@ fn calls(disks: &Disks) -> String {
     let shown = |(part, call): (Part, Call)| match call {
         Call::Write(place, _) => format!("{part:?} write {place}"),
         Call::Resize(size) => format!("{part:?} resize {size}"),
+        Call::Replace(bytes) => format!("{part:?} replace {}", bytes.len()),
         _ => format!("{part:?} sync"),
     };
     let shown: Vec<String> = disks.log().calls.drain(..).map(shown).collect();
@@ -166,9 +167,34 @@ fn the_calls_of_a_creation_and_an_opening() {
     let commitment = file.commitment().unwrap();
     drop(file);
     let mut file = disks.open().unwrap();
-    let expected = "File sync, Journal resize 0, Journal sync";
+    let expected = "File sync, Journal sync, Journal resize 0, Journal sync";
     assert_eq!((calls(&disks).as_str(), disks.log().locks), (expected, 4));
     file.verify(&commitment).unwrap();
+}
+
+/// An opening that completes a commit replaces the journal, makes the writes again, and empties it. Before it reads anything the
+/// system forgets what it keeps of both in memory.
+#[test]
+fn the_calls_of_a_recovery() {
+    let disks = cut_short(&Disks::with(b"").bytes(), &[1; 600], 0, 1 + JOURNAL_CALLS);
+    disks.log().calls.clear();
+    let seen = RefCell::new(Vec::new());
+    let sees = |part| {
+        let seen = &seen;
+        move |at| Ok(seen.borrow_mut().push((part, at)))
+    };
+    let journal = Before(disks.journal.clone(), sees(Part::Journal));
+    let length = disks.bytes().1.len();
+    let builder = disks.builder().journal(journal);
+    let opened = builder.open(Before(disks.file.clone(), sees(Part::File)), &KEY);
+    assert_eq!(text_of(&mut opened.unwrap()), [1; 600]);
+    let expected = format!(
+        "File sync, Journal replace {length}, File write 0, File write 4096, File write 0, File sync, \
+         Journal resize 0, Journal sync"
+    );
+    assert_eq!(calls(&disks), expected);
+    let first = [At::Lock, At::Forget].map(|at| [(Part::File, at), (Part::Journal, at)]);
+    assert_eq!(seen.borrow()[..4], first.concat());
 }
 
 /// A file whose lock, or whose journal's, is refused is not changed or synced, also if a commit is to be completed.
