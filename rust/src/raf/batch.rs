@@ -1,6 +1,8 @@
 //! Changes that are committed together, or undone.
 
+use super::engine::Savepoint;
 use super::{Algorithm, DefaultRng, Error, FileIo, JournalFile, Raf, RafCursor, RafIo, RafRng};
+use core::fmt;
 
 /// A file in a batch. [`Raf::batch`] passes it to its closure.
 ///
@@ -13,36 +15,18 @@ pub struct Batch<
     J: RafIo = JournalFile,
 > {
     file: &'f mut Raf<A, I, R, J>,
-    /// How many batches it is in, and the state before it.
-    depth: usize,
-    size: u64,
-    failure: Option<Error>,
+    savepoint: Savepoint,
 }
 
-debug_as!(['f, A: Algorithm, I: RafIo, R: RafRng, J: RafIo] Batch<'f, A, I, R, J>, "Batch");
-
-impl<'f, A: Algorithm, I: RafIo, R: RafRng, J: RafIo> Batch<'f, A, I, R, J> {
-    fn begin(file: &'f mut Raf<A, I, R, J>) -> Result<Self, Error> {
-        file.check_is_usable()?;
-        let depth = file.changes.begin_batch()?;
-        Ok(Batch {
-            depth,
-            size: file.size,
-            failure: file.failure.take(),
-            file,
-        })
+impl<A: Algorithm, I: RafIo, R: RafRng, J: RafIo> fmt::Debug for Batch<'_, A, I, R, J> {
+    fn fmt(&self, f: &mut fmt::Formatter<'_>) -> fmt::Result {
+        f.debug_struct("Batch")
+            .field("size", &self.size())
+            .finish_non_exhaustive()
     }
+}
 
-    /// Commits the changes, or gives them to the outer batch. After an error dropping undoes them.
-    fn end(&mut self) -> Result<(), Error> {
-        if self.depth > 0 {
-            self.file.changes.join_batches()?;
-        } else {
-            self.file.commit()?;
-        }
-        Ok(())
-    }
-
+impl<A: Algorithm, I: RafIo, R: RafRng, J: RafIo> Batch<'_, A, I, R, J> {
     /// Returns the length of the contents in bytes.
     #[must_use]
     pub fn size(&self) -> u64 {
@@ -97,11 +81,7 @@ impl<'f, A: Algorithm, I: RafIo, R: RafRng, J: RafIo> Batch<'f, A, I, R, J> {
 /// Undoes the changes of a batch that has not ended.
 impl<A: Algorithm, I: RafIo, R: RafRng, J: RafIo> Drop for Batch<'_, A, I, R, J> {
     fn drop(&mut self) {
-        if self.file.changes.undo_batch(self.depth) {
-            self.file.shown = 0..0;
-            self.file.size = self.size;
-            self.file.failure = self.failure.take();
-        }
+        self.file.engine.undo_batch(&mut self.savepoint);
     }
 }
 
@@ -134,9 +114,13 @@ impl<A: Algorithm, I: RafIo, R: RafRng, J: RafIo> Raf<A, I, R, J> {
         &mut self,
         changes: impl FnOnce(&mut Batch<'_, A, I, R, J>) -> Result<T, E>,
     ) -> Result<T, E> {
-        let mut batch = Batch::begin(self)?;
+        let savepoint = self.engine.begin_batch()?;
+        let mut batch = Batch {
+            file: self,
+            savepoint,
+        };
         let made = changes(&mut batch)?;
-        batch.end()?;
+        batch.file.engine.end_batch(&batch.savepoint)?;
         Ok(made)
     }
 }

@@ -41,6 +41,7 @@ impl Error {
                 None => Error::Io(error.kind().into()),
             },
             Error::Damaged(page) => Error::Damaged(*page),
+            Error::Header => Error::Header,
             Error::Journal => Error::Journal,
             Error::Moved => Error::Moved,
             Error::TooLong => Error::TooLong,

@@ -162,7 +162,7 @@ fn the_calls_of_a_creation_and_an_opening() {
     assert_eq!(outcome(disks.open()), "Header");
     assert_eq!(disks.log().locks, 0);
     let mut file = disks.create();
-    let expected = "Journal resize 0, Journal sync, File resize 0, File write 0, File sync";
+    let expected = "Journal resize 0, Journal sync, File write 0, File sync";
     assert_eq!((calls(&disks).as_str(), disks.log().locks), (expected, 2));
     let commitment = file.commitment().unwrap();
     drop(file);
@@ -181,7 +181,10 @@ fn the_calls_of_a_recovery() {
     let seen = RefCell::new(Vec::new());
     let sees = |part| {
         let seen = &seen;
-        move |at| Ok(seen.borrow_mut().push((part, at)))
+        move |at| {
+            seen.borrow_mut().push((part, at));
+            Ok(())
+        }
     };
     let journal = Before(disks.journal.clone(), sees(Part::Journal));
     let length = disks.bytes().1.len();
@@ -383,7 +386,7 @@ fn a_file_that_was_truncated_while_open() {
     file.write(b"text", 0).unwrap();
     disks.file.bytes.borrow_mut().truncate(511);
     let count = disks.calls();
-    assert_eq!(outcome(file.commit()), "UnexpectedEof");
+    assert_eq!(outcome(file.commit()), "Header");
     assert_eq!((disks.calls(), file.size()), (count, 4));
     file.discard();
 }

@@ -23,9 +23,9 @@ const NOT_IN_RUST: [&str; 6] = [
 ];
 
 fn bytes_of(digits: &str) -> Vec<u8> {
-    let digits = digits.trim_start_matches('-').as_bytes().chunks(2);
-    let byte = |pair| u8::from_str_radix(str::from_utf8(pair).unwrap(), 16).unwrap();
-    digits.map(byte).collect()
+    let places = (0..digits.trim_start_matches('-').len()).step_by(2);
+    let byte = |at| u8::from_str_radix(&digits[at..at + 2], 16).unwrap();
+    places.map(byte).collect()
 }
 
 fn result_of<T>(result: Result<T>) -> &'static str {
@@ -121,7 +121,10 @@ fn run_scene(text: &str) {
             [] => break,
             ["commit", _] => file.as_mut().unwrap().commit(),
             ["close", _] => file.take().unwrap().close(),
-            ["discard", _] => Ok(file.as_mut().unwrap().discard()),
+            ["discard", _] => {
+                file.as_mut().unwrap().discard();
+                Ok(())
+            }
             _ => panic!("{words:?} outside a batch"),
         };
         assert_eq!(result_of(result), words[1], "{words:?}");
