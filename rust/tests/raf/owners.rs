@@ -8,26 +8,6 @@ use std::os::unix::fs::{MetadataExt, PermissionsExt, chown, symlink};
 use std::path::Path;
 use std::process::Command;
 
-pub const TABLE: &str = include_str!("../../../testkit/owners.txt");
-
-/// Returns the words of each row of this kind.
-pub fn rows(kind: &str) -> impl Iterator<Item = Vec<&'static str>> {
-    let words = TABLE.lines().map(|line| line.split_whitespace().collect());
-    words.filter(move |words: &Vec<_>| words.first() == Some(&kind))
-}
-
-/// Returns what a row says of a result.
-pub fn word_of<T>(result: Result<T>) -> &'static str {
-    match outcome(result).as_str() {
-        "Ok" => "ok",
-        "InvalidData" => "rejected",
-        "Moved" => "moved",
-        "Locked" => "locked",
-        "Journal" => "wrong-journal",
-        _ => "failed",
-    }
-}
-
 fn own_ids() -> (u32, u32) {
     let own = fs::metadata("/proc/self").unwrap();
     (own.uid(), own.gid())

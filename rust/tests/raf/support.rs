@@ -581,7 +581,28 @@ pub fn over() -> RafBuilder<Aegis256> {
     RafBuilder::new().truncate(true)
 }
 
-// ---- Users
+// ---- Users, names and locks
+
+/// Which journals are trusted, and which names and locks accepted, in each language.
+pub const TABLE: &str = include_str!("../../../testkit/owners.txt");
+
+/// Returns the words of each row of this kind.
+pub fn rows(kind: &str) -> impl Iterator<Item = Vec<&'static str>> {
+    let words = TABLE.lines().map(|line| line.split_whitespace().collect());
+    words.filter(move |words: &Vec<_>| words.first() == Some(&kind))
+}
+
+/// Returns what a row says of a result.
+pub fn word_of<T>(result: Result<T>) -> &'static str {
+    match outcome(result).as_str() {
+        "Ok" => "ok",
+        "InvalidData" => "rejected",
+        "Moved" => "moved",
+        "Locked" => "locked",
+        "Journal" => "wrong-journal",
+        _ => "failed",
+    }
+}
 
 pub fn is_root() -> bool {
     fs::metadata("/proc/self").unwrap().uid() == 0
