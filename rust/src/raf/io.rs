@@ -366,7 +366,7 @@ impl RafIo for NoJournal {
 /// - The owner of the journal may always read and write it.
 /// - All others get no permission that the group lacks. They may be unable to complete a commit, or to commit.
 /// - If the owner or the group cannot be set, the users of the file may have to wait until the maker of the journal or root opens
-///   the file.
+///   the file. So may those of a file in a folder with the sticky bit.
 /// - ACLs, and users and groups that a user namespace hides, are not checked. Users who may write the journal through them can make
 ///   a crash leave some of the changes of a commit.
 ///
@@ -374,7 +374,10 @@ impl RafIo for NoJournal {
 /// [`io::ErrorKind::InvalidData`], and nothing is changed. So is one that a user may write who may not write the file, by
 /// owner, group and mode. The owner of a file counts as a member of its group.
 ///
-/// A file of this name with up to 512 bytes may be the rest of a journal after a crash. Opening removes it, and a commit removes an
+/// Before a commit is completed, a synced copy, `PATH.jrncopy`, is renamed over the journal. This needs room: on a full disk the file
+/// does not open until there is some, and nothing is lost.
+///
+/// A journal of up to 512 bytes may be the rest of one after a crash. Opening removes it, and a commit removes an
 /// empty one. If an empty one cannot be removed, opening ignores it, and a commit fails with the changes still in memory.
 ///
 /// Without a path, such as for a storage in memory, it is the same as [`NoJournal`].
