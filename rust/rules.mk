@@ -22,7 +22,7 @@ check-rust-both: $(OUT)/both/libhunkravy.a check-raf-c
 # The tests of random-access files once more, with the engine of the C library in the place of that of the package.
 check-raf-c: $(OUT)/both/libhunkravy.a
 	export RUSTFLAGS='--cfg c_engine -A dead_code'; \
-		$(call CARGO,both) test --offline --target-dir "$(CURDIR)/$(OUT)/both/cargo-c" --test raf --test forks
+		$(call CARGO,both) test --offline --target-dir "$(CURDIR)/$(OUT)/both/cargo-c" --test raf --test forks --test system_calls
 
 check-rust-%: $(OUT)/%/libhunkravy.a
 	$(call CARGO,$*) test --offline --lib --test lines --test destinations

@@ -97,7 +97,7 @@ logged! {
 
 /// Returns the calls since this was last called.
 fn calls() -> String {
-    CALLS.with_borrow_mut(|calls| calls.drain(..).collect::<Vec<_>>().join(", "))
+    CALLS.take().join(", ")
 }
 
 #[test]

@@ -708,7 +708,7 @@ impl<J: RafIo> JournalChoice for J {
 pub mod tests {
     use super::*;
     use alloc::{format, vec};
-    use std::os::unix::fs::{chown, symlink};
+    use std::os::unix::fs::symlink;
 
     /// The paths of a file and of its journal, where nothing is left.
     pub struct Paths(pub PathBuf, pub PathBuf);
@@ -727,28 +727,6 @@ pub mod tests {
             let _ = fs::remove_file(&self.0);
             let _ = fs::remove_file(&self.1);
         }
-    }
-
-    fn set_mode(path: &Path, mode: u32) {
-        fs::set_permissions(path, Permissions::from_mode(mode)).unwrap();
-    }
-
-    #[test]
-    fn what_cannot_be_synced_or_cut() {
-        // A device can be neither: so each of these calls reaches the system.
-        let device = || options().open("/dev/null").unwrap();
-        let mut io = FileIo::new(device());
-        assert!(io.sync().is_err() && io.set_size(0).is_err());
-        // There is nothing at its path, so that no fault can remove anything.
-        let mut journal = JournalFile::at(Some(std::env::temp_dir().join("hunkravy-none/none")));
-        journal.file = Some(device());
-        assert!(journal.sync().is_err() && journal.set_size(0).is_err());
-        assert!(journal.check_path().is_err());
-        // A folder that can be read, but in which no file can be made.
-        let mut journal = JournalFile::at(Some("/proc/none.journal".into()));
-        assert!(journal.check_path().is_err());
-        assert!(sync_folder(Path::new("/proc/file")).is_err());
-        assert!(sync_folder(Path::new("file")).is_ok());
     }
 
     /// A new file in which another program has written before it was locked is not removed.
@@ -777,43 +755,6 @@ pub mod tests {
         assert!(other.lock().is_ok());
     }
 
-    /// A journal gets the mode, the owner and the group of its file. It is rejected if others may write it, or if another user owns it.
-    #[test]
-    fn modes() {
-        let Paths(path, at) = &Paths::new("modes");
-        let open = |create| JournalFile::at(Some(at.clone())).open(create).map(drop);
-        for (mode, own) in [
-            (0o600, 0o600),
-            (0o644, 0o644),
-            (0o660, 0o660),
-            (0o666, 0o666),
-            (0o606, 0o600),
-        ] {
-            File::create(path).unwrap();
-            set_mode(path, mode);
-            // Only root can give files to another user, or to a group that it is not in.
-            let _ = chown(path, Some(65533), Some(65533));
-            open(true).unwrap();
-            fs::write(at, [1]).unwrap();
-            let (made, of) = (at.metadata().unwrap(), path.metadata().unwrap());
-            assert_eq!((made.mode() & 0o777, made.uid()), (own, of.uid()));
-            assert_eq!(made.gid(), of.gid());
-            open(false).unwrap();
-            let (all_may, group_may) = (own & OTHERS_WRITE != 0, own & GROUP_WRITES != 0);
-            for (other, is_safe) in [(0o602, all_may), (0o620, group_may)] {
-                set_mode(at, other);
-                assert_eq!(open(false).is_ok(), is_safe, "{mode:o} {other:o}");
-            }
-            set_mode(at, 0o600);
-            for (user, is_safe) in [(65532, group_may), (0, true)] {
-                if chown(at, Some(user), None).is_ok() {
-                    assert_eq!(open(false).is_ok(), is_safe, "{mode:o} {user}");
-                }
-            }
-            fs::remove_file(at).unwrap();
-        }
-    }
-
     /// A new journal is for its owner alone until it has the mode of its file. It takes no other file and follows no link. Opening
     /// rejects any other file than was found.
     #[test]
@@ -832,22 +773,6 @@ pub mod tests {
         assert!(new_journal(at).is_err() && !path.exists());
     }
 
-    #[test]
-    fn modes_in_other_groups() {
-        for (of, in_its_group, in_another) in [
-            (0o600, 0o600, 0o600),
-            (0o660, 0o660, 0o600),
-            (0o666, 0o666, 0o666),
-            (0o464, 0o664, 0o644),
-            (0o4755, 0o644, 0o644),
-            (0o606, 0o600, 0o600),
-            (0o646, 0o644, 0o644),
-        ] {
-            assert_eq!(mode_beside(of, true), in_its_group, "{of:o}");
-            assert_eq!(mode_beside(of, false), in_another, "{of:o}");
-        }
-    }
-
     /// Zeros are written in the place of room that a file system cannot take, and nowhere else.
     #[test]
     fn zeros_for_room() {
@@ -864,54 +789,20 @@ pub mod tests {
         }
     }
 
-    /// An empty journal is removed when it is opened, whoever may open it, and another file of its name is not.
+    /// A journal that was emptied is removed, and another file that has its name by then is not.
     #[test]
-    fn empty_journals() {
+    fn emptied_journals() {
         let Paths(_, at) = &Paths::new("empty");
-        File::create(at).unwrap();
         let mut journal = JournalFile::at(Some(at.clone()));
-        journal.set_size(0).unwrap();
-        assert!(!at.exists() && journal.file.is_none());
-        // A commit makes its own in place of it.
-        let left = File::create(at).unwrap();
-        journal.check_path().unwrap();
-        journal.write_at(b"journal", 0).unwrap();
-        assert_eq!(fs::read(at).unwrap(), b"journal");
-        assert_eq!(left.metadata().unwrap().len(), 0);
-        journal.sync().unwrap();
-        assert!(journal.is_name_synced);
-        // The next one has a name that is to be synced too.
-        journal.set_size(0).unwrap();
-        journal.sync().unwrap();
-        assert!(!at.exists() && journal.file.is_none() && !journal.is_name_synced);
-        File::create(at).unwrap();
-        journal.file = Some(options().open(at).unwrap());
-        fs::remove_file(at).unwrap();
-        fs::write(at, "another").unwrap();
-        journal.sync().unwrap();
-        assert_eq!(fs::read(at).unwrap(), b"another");
-    }
-
-    /// The name of a file is synced before its first commit, once, and so is that of a journal that is not empty.
-    #[test]
-    fn the_name_of_a_new_file_is_synced_once() {
-        let Paths(path, _) = &Paths::new("names");
-        let made = FileIo::create_new(path).unwrap();
-        let (created, opened) = (FileIo::create(path).unwrap(), FileIo::open(path).unwrap());
-        for mut io in [made, created, opened] {
-            // It has a name, in a folder that cannot be synced.
-            io.path = Some("/proc/version".into());
-            io.file = File::open("/proc/version").unwrap();
-            assert!(io.check_name().is_ok(), "{:?}", io.check_name());
-            assert!(io.check_path().is_err() && !io.is_name_synced);
+        for is_replaced in [false, true] {
+            journal.check_path().unwrap();
+            if is_replaced {
+                fs::remove_file(at).unwrap();
+                fs::write(at, "another").unwrap();
+            }
+            journal.sync().unwrap();
+            assert_eq!(at.exists(), is_replaced);
         }
-        let mut journal = JournalFile::at(Some("/proc/file".into()));
-        journal.file = Some(options().open(path).unwrap());
-        journal.set_size(1).unwrap();
-        assert!(journal.sync().is_err());
-        journal.is_name_synced = true;
-        assert!(journal.sync().is_ok());
-        let mut opened = FileIo::open(path).unwrap();
-        assert!(opened.check_path().is_ok() && opened.is_name_synced);
+        assert_eq!(fs::read(at).unwrap(), b"another");
     }
 }

@@ -22,24 +22,6 @@ struct RawFile([u8; 0]);
 
 type Context = *mut c_void;
 
-/// `struct hunkravy_storage`
-#[repr(C)]
-struct Storage {
-    context: Context,
-    read: extern "C" fn(Context, c_int, u64, *mut u8, usize) -> c_int,
-    write: extern "C" fn(Context, c_int, u64, *const u8, usize) -> c_int,
-    size: extern "C" fn(Context, c_int, &mut u64) -> c_int,
-    resize: extern "C" fn(Context, c_int, u64) -> c_int,
-    sync: extern "C" fn(Context, c_int) -> c_int,
-    replace: extern "C" fn(Context, *const u8, usize) -> c_int,
-    forget: extern "C" fn(Context, c_int) -> c_int,
-    lock: extern "C" fn(Context) -> c_int,
-    check: extern "C" fn(Context) -> c_int,
-    reserve: extern "C" fn(Context, u64, u64) -> c_int,
-    random: extern "C" fn(Context, *mut u8, usize) -> c_int,
-    close: Option<extern "C" fn(Context)>,
-}
-
 type Opened<'f> = &'f mut *mut RawFile;
 
 // SAFETY: they are declared as in `hunkravy_file.h`.
@@ -115,85 +97,62 @@ impl<I: RafIo, R: RafRng, J: RafIo> Parts<I, R, J> {
         }
     }
 
-    extern "C" fn read(c: Context, part: c_int, place: u64, bytes: *mut u8, len: usize) -> c_int {
-        let bytes = bytes_at(bytes, len);
-        Self::call(c, |this| Ok(this.part(part).read_at(bytes, place)?))
-    }
-
-    extern "C" fn write(c: Context, part: c_int, place: u64, data: *const u8, len: usize) -> c_int {
-        let data = data_at(data, len);
-        Self::call(c, |this| Ok(this.part(part).write_at(data, place)?))
-    }
-
-    extern "C" fn size(c: Context, part: c_int, size: &mut u64) -> c_int {
-        Self::call(c, |this| {
-            *size = this.part(part).get_size()?;
-            Ok(())
-        })
-    }
-
-    extern "C" fn resize(c: Context, part: c_int, size: u64) -> c_int {
-        Self::call(c, |this| Ok(this.part(part).set_size(size)?))
-    }
-
-    extern "C" fn sync(c: Context, part: c_int) -> c_int {
-        Self::call(c, |this| Ok(this.part(part).sync()?))
-    }
-
-    extern "C" fn replace(c: Context, data: *const u8, len: usize) -> c_int {
-        Self::call(c, |this| Ok(this.journal.replace(data_at(data, len))?))
-    }
-
-    extern "C" fn forget(c: Context, part: c_int) -> c_int {
-        Self::call(c, |this| Ok(this.part(part).forget()?))
-    }
-
     /// The library creates files in empty storages alone.
-    extern "C" fn lock(c: Context) -> c_int {
-        Self::call(c, |this| {
-            this.io.lock()?;
-            this.journal.lock()?;
-            if this.is_truncated && this.journal.get_size()? == 0 {
-                this.io.set_size(0)?;
-            }
-            Ok(())
-        })
-    }
-
-    extern "C" fn check(c: Context) -> c_int {
-        Self::call(c, |this| this.io.check_path())
-    }
-
-    extern "C" fn reserve(c: Context, from: u64, end: u64) -> c_int {
-        Self::call(c, |this| {
-            if end > from {
-                this.io.reserve(from, end)?;
-            }
-            this.journal.check_path()
-        })
-    }
-
-    extern "C" fn random(c: Context, bytes: *mut u8, len: usize) -> c_int {
-        Self::call(c, |this| this.rng.fill(bytes_at(bytes, len)))
-    }
-
-    fn storage(&mut self) -> Storage {
-        Storage {
-            context: ptr::from_mut(self).cast(),
-            read: Self::read,
-            write: Self::write,
-            size: Self::size,
-            resize: Self::resize,
-            sync: Self::sync,
-            replace: Self::replace,
-            forget: Self::forget,
-            lock: Self::lock,
-            check: Self::check,
-            reserve: Self::reserve,
-            random: Self::random,
-            close: None,
+    fn lock_both(&mut self) -> Result<()> {
+        self.io.lock()?;
+        self.journal.lock()?;
+        if self.is_truncated && self.journal.get_size()? == 0 {
+            self.io.set_size(0)?;
         }
+        Ok(())
     }
+
+    fn make_room(&mut self, from: u64, end: u64) -> Result<()> {
+        if end > from {
+            self.io.reserve(from, end)?;
+        }
+        self.journal.check_path()
+    }
+}
+
+/// Defines `struct hunkravy_storage`, and each of its functions over the parts.
+macro_rules! storage {
+    ($($name:ident($($argument:ident: $type:ty),*) |$parts:ident| $body:expr;)*) => {
+        #[repr(C)]
+        struct Storage {
+            context: Context,
+            $($name: extern "C" fn(Context $(, $type)*) -> c_int,)*
+            close: Option<extern "C" fn(Context)>,
+        }
+
+        impl<I: RafIo, R: RafRng, J: RafIo> Parts<I, R, J> {
+            $(extern "C" fn $name(context: Context $(, $argument: $type)*) -> c_int {
+                Self::call(context, |$parts| {
+                    $body;
+                    Ok(())
+                })
+            })*
+
+            fn storage(&mut self) -> Storage {
+                let context = ptr::from_mut(self).cast();
+                Storage { context, $($name: Self::$name,)* close: None }
+            }
+        }
+    };
+}
+
+storage! {
+    read(part: c_int, place: u64, bytes: *mut u8, len: usize) |p| p.part(part).read_at(bytes_at(bytes, len), place)?;
+    write(part: c_int, place: u64, data: *const u8, len: usize) |p| p.part(part).write_at(data_at(data, len), place)?;
+    size(part: c_int, size: &mut u64) |p| *size = p.part(part).get_size()?;
+    resize(part: c_int, size: u64) |p| p.part(part).set_size(size)?;
+    sync(part: c_int) |p| p.part(part).sync()?;
+    replace(data: *const u8, len: usize) |p| p.journal.replace(data_at(data, len))?;
+    forget(part: c_int) |p| p.part(part).forget()?;
+    lock() |p| p.lock_both()?;
+    check() |p| p.io.check_path()?;
+    reserve(from: u64, end: u64) |p| p.make_room(from, end)?;
+    random(bytes: *mut u8, len: usize) |p| p.rng.fill(bytes_at(bytes, len))?;
 }
 
 pub struct Engine<A: Algorithm, I: RafIo, R: RafRng, J: RafIo> {
@@ -318,28 +277,29 @@ impl<A: Algorithm, I: RafIo, R: RafRng, J: RafIo> Engine<A, I, R, J> {
         hunkravy_file_size(self.shared())
     }
 
+    fn call(&mut self, call: impl FnOnce(&mut RawFile) -> c_int) -> Result<()> {
+        let code = call(self.raw());
+        self.result(code)
+    }
+
     pub fn read(&mut self, buf: &mut [u8], offset: u64) -> Result<usize> {
-        let (mut count, out, outlen) = (0, buf.as_mut_ptr(), buf.len());
+        let (mut count, out, len) = (0, buf.as_mut_ptr(), buf.len());
         // SAFETY: the buffer has this many bytes.
-        let code = unsafe { hunkravy_file_read(self.raw(), offset, out, outlen, &mut count) };
-        self.result(code)?;
+        self.call(|file| unsafe { hunkravy_file_read(file, offset, out, len, &mut count) })?;
         Ok(count)
     }
 
     pub fn write(&mut self, data: &[u8], offset: u64) -> Result<()> {
         // SAFETY: there are this many bytes.
-        let code = unsafe { hunkravy_file_write(self.raw(), offset, data.as_ptr(), data.len()) };
-        self.result(code)
+        self.call(|file| unsafe { hunkravy_file_write(file, offset, data.as_ptr(), data.len()) })
     }
 
     pub fn truncate(&mut self, size: u64) -> Result<()> {
-        let code = hunkravy_file_truncate(self.raw(), size);
-        self.result(code)
+        self.call(|file| hunkravy_file_truncate(file, size))
     }
 
     pub fn commit(&mut self) -> Result<()> {
-        let code = hunkravy_file_commit(self.raw());
-        self.result(code)
+        self.call(|file| hunkravy_file_commit(file))
     }
 
     pub fn close(&mut self) -> Result<()> {
@@ -355,14 +315,12 @@ impl<A: Algorithm, I: RafIo, R: RafRng, J: RafIo> Engine<A, I, R, J> {
 
     pub fn begin_batch(&mut self) -> Result<Savepoint> {
         let mut number = 0;
-        let code = hunkravy_file_begin(self.raw(), &mut number);
-        self.result(code)?;
+        self.call(|file| hunkravy_file_begin(file, &mut number))?;
         Ok(Savepoint(number))
     }
 
     pub fn end_batch(&mut self, batch: &Savepoint) -> Result<()> {
-        let code = hunkravy_file_end(self.raw(), batch.0);
-        self.result(code)
+        self.call(|file| hunkravy_file_end(file, batch.0))
     }
 
     pub fn undo_batch(&mut self, batch: &mut Savepoint) {
@@ -375,8 +333,7 @@ impl<A: Algorithm, I: RafIo, R: RafRng, J: RafIo> Engine<A, I, R, J> {
 
     pub fn commitment(&mut self) -> Result<Commitment> {
         let mut mac = [0; 32];
-        let code = hunkravy_file_commitment(self.raw(), &mut mac);
-        self.result(code)?;
+        self.call(|file| hunkravy_file_commitment(file, &mut mac))?;
         Ok(Commitment(mac))
     }
 }

@@ -193,30 +193,27 @@ fn names_of_files_and_journals() {
         let folder = Folder::with(b"before");
         let mut open = case.starts_with("open").then(|| folder.open().unwrap());
         let path = folder.path(prepare(&folder, case));
-        let (names, bytes) = (folder.names(), fs::read(folder.file()).ok());
+        let left = || (folder.names(), fs::read(folder.file()).ok());
+        let (names, bytes) = left();
         let result = match &mut open {
-            None => word_of(Raf::<Aegis256>::open_file(path, &KEY)),
+            None => word_of(Raf::<Aegis256>::open_file(&path, &KEY)),
             Some(file) => word_of(file.write(b"after!", 0).and_then(|_| file.commit())),
         };
         assert_eq!(result, expected, "{case}");
         if expected != "ok" {
-            assert_eq!(
-                (folder.names(), fs::read(folder.file()).ok()),
-                (names, bytes),
-                "{case}"
-            );
+            assert_eq!(left(), (names, bytes), "{case}");
+            match &mut open {
+                Some(file) => assert_eq!(text_of(file), b"after!", "{case}"),
+                None if case == "copy-folder" => (),
+                None => assert!(over().create_file(&path, &KEY).is_err(), "{case}"),
+            }
             continue;
         }
         let is_changed = open.take().is_some() || case.starts_with("copy");
-        assert_eq!(
-            folder.text(),
-            if is_changed { b"after!" } else { b"before" },
-            "{case}"
-        );
+        let text: &[u8] = if is_changed { b"after!" } else { b"before" };
+        assert_eq!(folder.text(), text, "{case}");
         let kept = ["file", "link", "link.journal", "other"];
-        let kept = names
-            .into_iter()
-            .filter(|name| kept.contains(&name.as_str()));
+        let kept = names.into_iter().filter(|name| kept.contains(&&**name));
         assert_eq!(folder.names(), kept.collect::<Vec<_>>(), "{case}");
         assert_eq!(fs::read(folder.path("other")).unwrap(), b"another file");
     }
