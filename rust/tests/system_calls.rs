@@ -127,6 +127,11 @@ fn the_calls_of_the_system() {
     let torn = "sync file, forget file, sync file.journal, forget file.journal, sync file, sync file.journal, sync folder, \
          resize file.journal, sync file.journal, remove file.journal";
     assert_eq!(calls(), torn);
+    // It may be empty only in what can be read: a sync of that has failed.
+    fs::write(folder.journal(), b"").unwrap();
+    drop(folder.open().unwrap());
+    let empty = "sync file, resize file.journal, sync file.journal, remove file.journal";
+    assert_eq!(calls(), empty);
     fs::write(folder.journal(), &journal).unwrap();
     let opened = Raf::<hunkravy::raf::Aegis256>::open_file(folder.file(), &KEY);
     let whole = "sync file, forget file, sync file.journal, forget file.journal, sync file, remove file.jrncopy, \
@@ -182,14 +187,16 @@ fn each_call_of_the_system_that_fails() {
     let journal = cut_short(&(bytes.clone(), Vec::new()), b"after!", 0, JOURNAL_CALLS)
         .bytes()
         .1;
-    let recover = || {
-        fs::write(folder.file(), &bytes).unwrap();
-        fs::write(folder.journal(), &journal).unwrap();
-        outcome(folder.open())
-    };
-    each_failure(recover, |failed, result| {
-        assert_eq!(folder.text(), b"after!", "{failed}");
-        assert_eq!(folder.names(), ["file"]);
-        is_error(failed, result);
-    });
+    for (journal, text) in [(journal, b"after!"), (Vec::new(), b"before")] {
+        let recover = || {
+            fs::write(folder.file(), &bytes).unwrap();
+            fs::write(folder.journal(), &journal).unwrap();
+            outcome(folder.open())
+        };
+        each_failure(recover, |failed, result| {
+            assert_eq!(folder.text(), text, "{failed}");
+            assert_eq!(folder.names(), ["file"]);
+            is_error(failed, result);
+        });
+    }
 }

@@ -377,8 +377,8 @@ impl RafIo for NoJournal {
 /// Before a commit is completed, a synced copy, `PATH.jrncopy`, is renamed over the journal. This needs room: on a full disk the file
 /// does not open until there is some, and nothing is lost.
 ///
-/// A journal of up to 512 bytes may be the rest of one after a crash. Opening removes it, and a commit removes an
-/// empty one. If an empty one cannot be removed, opening ignores it, and a commit fails with the changes still in memory.
+/// A journal of up to 512 bytes may be the rest of one after a crash. Opening removes it, and a commit removes an empty one. If an
+/// empty one cannot be removed, a commit fails with the changes still in memory. If it cannot be opened either, opening fails.
 ///
 /// Without a path, such as for a storage in memory, it is the same as [`NoJournal`].
 #[derive(Debug)]
@@ -406,7 +406,11 @@ impl JournalFile {
     /// Opens the file, or returns `None` if there is none and none is to be made.
     fn open(&mut self, create: bool) -> io::Result<Option<&mut File>> {
         if let (Some(path), None) = (&self.path, &self.file) {
-            self.file = match left_at(path, create)? {
+            if create && empty_at(path)?.is_some() {
+                // Its owner could write it.
+                fs::remove_file(path)?;
+            }
+            self.file = match journal_at(path)? {
                 Some(found) => Some(open_same(path, &found)?),
                 None if create => Some(new_journal(path)?),
                 None => None,
@@ -448,16 +452,23 @@ fn journal_at(path: &Path) -> io::Result<Option<Metadata>> {
     }
 }
 
-/// Removes an empty journal, and returns what is then at the path. If `create` is set, an empty journal that cannot be removed
-/// is an error, because its owner could write it. The file of the journal must be locked.
-fn left_at(path: &Path, create: bool) -> io::Result<Option<Metadata>> {
-    if found_at(path)?.is_some_and(|found| is_empty(&found)) {
-        return match fs::remove_file(path) {
-            Err(error) if create => Err(error),
-            _ => Ok(None),
-        };
-    }
-    journal_at(path)
+/// Returns what is at the path of a journal, if it is an empty file.
+fn empty_at(path: &Path) -> io::Result<Option<Metadata>> {
+    Ok(found_at(path)?.filter(is_empty))
+}
+
+/// Opens an empty journal and empties it once more: after a sync that failed the disk may have all of its bytes. Removes one that
+/// cannot be opened.
+fn emptied_at(path: &Path) -> io::Result<Option<File>> {
+    let Some(found) = empty_at(path)? else {
+        return Ok(None);
+    };
+    let Ok(file) = open_same(path, &found) else {
+        fs::remove_file(path)?;
+        return sync_folder(path).map(|()| None);
+    };
+    file.set_len(0)?;
+    Ok(Some(file))
 }
 
 fn is_empty(found: &Metadata) -> bool {
@@ -601,8 +612,8 @@ impl RafIo for JournalFile {
 
     /// Truncates no file that was not opened before.
     fn set_size(&mut self, size: u64) -> io::Result<()> {
-        if let (Some(path), None, 0) = (&self.path, &self.file, size) {
-            return left_at(path, false).map(drop);
+        if self.file.is_none() && size == 0 {
+            return Ok(());
         }
         let file = self.open(true)?;
         file.map_or(Ok(()), |file| file.set_len(size))
@@ -650,13 +661,15 @@ impl RafIo for JournalFile {
         Ok(())
     }
 
-    /// Syncs the file and its name. If it is empty it is then removed, and so is an empty one that a crash has left, if it can be.
+    /// Syncs the file and its name. If it is empty it is then removed, and so is an empty one that was left, if it can be.
     fn sync(&mut self) -> io::Result<()> {
         let Some(path) = &self.path else {
             return Ok(());
         };
+        if self.file.is_none() {
+            self.file = emptied_at(path)?;
+        }
         let Some(file) = &self.file else {
-            let _ = left_at(path, false);
             return Ok(());
         };
         file.sync_all()?;

@@ -39,7 +39,6 @@ unsafe extern "C" {
     safe fn hunkravy_file_begin(file: &mut RawFile, batch: &mut u64) -> c_int;
     safe fn hunkravy_file_end(file: &mut RawFile, batch: u64) -> c_int;
     safe fn hunkravy_file_undo(file: &mut RawFile, batch: u64);
-    safe fn hunkravy_file_is_in_batch(file: &RawFile) -> c_int;
     safe fn hunkravy_file_set_limit(file: &mut RawFile, limit: u64);
     safe fn hunkravy_file_commitment(file: &mut RawFile, mac: &mut [u8; 32]) -> c_int;
     safe fn hunkravy_file_check(file: &RawFile) -> c_int;
@@ -158,14 +157,16 @@ storage! {
 pub struct Engine<A: Algorithm, I: RafIo, R: RafRng, J: RafIo> {
     file: *mut RawFile,
     parts: Box<Parts<I, R, J>>,
+    /// How many batches are open.
+    depth: u64,
     algorithm: PhantomData<A>,
 }
 
 // SAFETY: the library uses a file from any thread, one at a time.
 unsafe impl<A: Algorithm, I: RafIo, R: RafRng, J: RafIo> Send for Engine<A, I, R, J> {}
 
-/// The number of a batch.
-pub struct Savepoint(u64);
+/// The number of a batch, and how many others it is in.
+pub struct Savepoint(u64, u64);
 
 /// The library generates what a new file needs.
 pub type Draws<A> = PhantomData<A>;
@@ -222,6 +223,7 @@ impl<A: Algorithm, I: RafIo, R: RafRng, J: RafIo> Engine<A, I, R, J> {
         let mut engine = Engine {
             file,
             parts,
+            depth: 0,
             algorithm: PhantomData,
         };
         engine.result(code)?;
@@ -316,19 +318,22 @@ impl<A: Algorithm, I: RafIo, R: RafRng, J: RafIo> Engine<A, I, R, J> {
     pub fn begin_batch(&mut self) -> Result<Savepoint> {
         let mut number = 0;
         self.call(|file| hunkravy_file_begin(file, &mut number))?;
-        Ok(Savepoint(number))
+        self.depth += 1;
+        Ok(Savepoint(number, self.depth - 1))
     }
 
     pub fn end_batch(&mut self, batch: &Savepoint) -> Result<()> {
         self.call(|file| hunkravy_file_end(file, batch.0))
     }
 
+    /// It is called after the end of a batch too.
     pub fn undo_batch(&mut self, batch: &mut Savepoint) {
         hunkravy_file_undo(self.raw(), batch.0);
+        self.depth = batch.1;
     }
 
     pub fn is_in_batch(&self) -> bool {
-        hunkravy_file_is_in_batch(self.shared()) != 0
+        self.depth > 0
     }
 
     pub fn commitment(&mut self) -> Result<Commitment> {
