@@ -24,12 +24,12 @@ pub fn copy_of(page: &[u8]) -> io::Result<Page> {
     Ok(Wiped(copy))
 }
 
-/// Changed pages by their numbers, each with room for its nonce and its tag. `None` is a page that a batch has truncated. A tree
-/// would be sorted, but takes its memory without a way to fail.
-type Layer = HashMap<u64, Option<Page>>;
+/// Changed pages by their numbers, each with room for its nonce and its tag. A tree would be sorted, but takes its memory without
+/// a way to fail.
+type Layer = HashMap<u64, Page>;
 
 /// The changed pages: those outside any batch, and above them those of each open batch, the innermost last. So undoing a batch
-/// takes no memory.
+/// takes no memory. Pages past the end of the contents have no meaning: a batch leaves those that it truncates to the outer one.
 pub struct Changes(Vec<Layer>);
 
 impl Changes {
@@ -51,13 +51,12 @@ impl Changes {
 
     /// Returns a page that was changed.
     pub fn get(&self, number: u64) -> Option<&Page> {
-        let found = self.0.iter().rev().find_map(|layer| layer.get(&number));
-        found?.as_ref()
+        self.0.iter().rev().find_map(|layer| layer.get(&number))
     }
 
     fn get_mut(&mut self, number: u64) -> Option<&mut Page> {
         let mut layers = self.0.iter_mut().rev();
-        layers.find_map(|layer| layer.get_mut(&number))?.as_mut()
+        layers.find_map(|layer| layer.get_mut(&number))
     }
 
     /// Returns how many pages from this number on are unchanged, at most this many.
@@ -69,11 +68,11 @@ impl Changes {
         (0..most).find(is_changed).unwrap_or(most)
     }
 
-    /// Returns the numbers of the pages, the lowest first.
-    pub fn numbers(&self) -> io::Result<Vec<u64>> {
+    /// Returns the numbers below `count` of the pages, the lowest first.
+    pub fn numbers(&self, count: u64) -> io::Result<Vec<u64>> {
         let mut numbers = with_room(self.0.iter().map(Layer::len).sum())?;
-        numbers.extend(self.0.iter().flat_map(Layer::keys));
-        numbers.retain(|number| self.get(*number).is_some());
+        let all = self.0.iter().flat_map(Layer::keys);
+        numbers.extend(all.filter(|number| **number < count));
         numbers.sort_unstable();
         numbers.dedup();
         Ok(numbers)
@@ -89,31 +88,20 @@ impl Changes {
 
     /// Replaces a page that was changed since the innermost batch began. Returns whether there is one.
     pub fn replace(&mut self, number: u64, page: &[u8]) -> bool {
-        let own = self.own().get_mut(&number).and_then(Option::as_mut);
+        let own = self.own().get_mut(&number);
         own.map(|own| own.0.copy_from_slice(page)).is_some()
     }
 
     /// Takes over pages, in place of those of the same numbers. If memory runs out nothing has changed.
     pub fn append(&mut self, pages: Vec<(u64, Page)>) -> io::Result<()> {
         reserve(self.own(), pages.len())?;
-        let pages = pages.into_iter().map(|(number, page)| (number, Some(page)));
         self.own().extend(pages);
         Ok(())
     }
 
-    /// Forgets the pages from this number on. If memory runs out nothing has changed.
-    pub fn truncate(&mut self, count: u64) -> io::Result<()> {
-        let (own, outer) = self.0.split_last_mut().expect("there is a layer");
-        let hidden = || {
-            outer
-                .iter()
-                .flat_map(Layer::keys)
-                .filter(|at| **at >= count)
-        };
-        reserve(own, hidden().count())?;
-        own.retain(|number, _| *number < count);
-        own.extend(hidden().map(|number| (*number, None)));
-        Ok(())
+    /// Forgets the pages from this number on that were changed since the innermost batch began.
+    pub fn truncate(&mut self, count: u64) {
+        self.own().retain(|number, _| *number < count);
     }
 
     /// Forgets all pages.

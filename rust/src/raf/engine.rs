@@ -228,7 +228,7 @@ impl<A: Algorithm, I: RafIo, R: RafRng, J: RafIo> Engine<A, I, R, J> {
             return self.write(&[], size);
         }
         self.check()?;
-        self.try_to(|file| Ok(file.changes.truncate(file.layout.page_count(size))?))?;
+        self.changes.truncate(self.layout.page_count(size));
         self.size = size;
         Ok(())
     }
@@ -254,7 +254,8 @@ impl<A: Algorithm, I: RafIo, R: RafRng, J: RafIo> Engine<A, I, R, J> {
         if !self.owner.is_this() {
             return Err(Error::Locked);
         }
-        let numbers = self.changes.numbers()?;
+        let count = self.layout.page_count(self.size);
+        let numbers = self.changes.numbers(count)?;
         if numbers.is_empty() && self.size == self.stored {
             return Ok(());
         }

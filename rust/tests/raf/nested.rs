@@ -181,6 +181,19 @@ fn the_limit_in_a_batch() {
     assert_eq!(disks.text(), [2]);
 }
 
+/// Pages that an inner batch truncates are not written.
+#[test]
+fn pages_that_are_truncated_in_a_batch() {
+    let (mut file, disks) = with_text(b"0000");
+    let length = disks.bytes().0.len();
+    let made = file.batch(|file| {
+        file.write(&[1; 2000], 0)?;
+        file.batch(|file| file.truncate(3))
+    });
+    made.unwrap();
+    assert_eq!((disks.text(), disks.bytes().0.len()), (vec![1; 3], length));
+}
+
 /// A batch that panics is undone, also one inside another, which goes on.
 #[test]
 fn batches_that_panic() {
