@@ -1,7 +1,7 @@
 //! Encrypted files that are read and written at any place.
 //!
 //! The contents are split into pages, each of which is encrypted on its own. [`Raf::batch`] makes several changes together: it
-//! commits them, or discards them if one of them fails. Outside a batch changes stay in memory until a commit: [`Raf::commit`],
+//! commits them, or undoes them if the closure returns an error. Outside a batch changes stay in memory until a commit: [`Raf::commit`],
 //! [`Raf::sync`], dropping, or a write past the limit. **After a crash all changes of a commit are there, or none.** A commit
 //! writes its changes to the journal first, the file `PATH.journal` beside the file. It removes the journal at the end. Opening
 //! completes a commit that was interrupted.
@@ -34,9 +34,9 @@
 //! The names are those of the module `raf` of the crate `aegis`. The format of the files and the derived keys are different.
 //! [`Raf::commitment`] and [`Raf::verify`] replace the Merkle tree. Changes need a commit, and an open file is locked.
 //!
-//! `docs/RANDOM-ACCESS.md` defines the format. The proved crate `aegis_pages` reads and writes it too. Proved
-//! functions of the library encrypt and decrypt each page and each header, and authenticate a journal. Reading and writing
-//! files around them is tested against the proved crate, and not proved.
+//! `docs/RANDOM-ACCESS.md` defines the format. The proved crate `aegis_pages` reads and writes it too. Proved functions of the
+//! library encrypt and decrypt each page and each header, authenticate a journal, and return the order of the writes and syncs of
+//! a commit and of a recovery. Reading and writing files around them is tested against the proved crate, and not proved.
 
 mod batch;
 mod builder;
@@ -102,8 +102,9 @@ pub const MAX_SIZE: u64 = 1 << 60;
 /// dropping does not commit, until a `commit` succeeds or [`discard`](Raf::discard) is called. Dropping does not commit while its
 /// thread panics. If threads share the file through a mutex and one of them has panicked, call `discard` in the others.
 ///
-/// After an error in the middle of a commit the file is broken: each function that reads, changes or commits it returns
-/// [`Error::Broken`]. If it has a journal, opening it again gives the contents before the commit or after it.
+/// After an error of a commit the changes are still in memory, and nothing else has changed, unless a part of the commit may be in
+/// the file: then the file is broken, and each function that reads, changes or commits it returns [`Error::Broken`]. If it has a
+/// journal, opening it again gives the contents before the commit or after it.
 ///
 /// A file belongs to the process that opened it. After `fork` these functions return [`Error::Locked`] in any other process, and
 /// dropping does nothing there. `_Fork`, and a `clone` without the C library, are not always noticed: do not use the file in it.
