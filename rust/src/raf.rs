@@ -43,7 +43,7 @@ mod builder;
 mod changes;
 mod cursor;
 mod derive;
-#[cfg_attr(c_engine, path = "../tests/raf/c_engine.rs")]
+#[cfg_attr(c_engine, path = "../tests/c_engine/engine.rs")]
 mod engine;
 mod error;
 mod io;
