@@ -1,5 +1,5 @@
 # The Cargo package over the C library, and its tests.
-.PHONY: check-rust check-rust-both check-rust-tool check-raf fuzz
+.PHONY: check-rust check-rust-both check-raf-c check-rust-tool check-raf fuzz
 
 # Cargo on the package over a library. Debug information and what a second build would use take a third of the time.
 CARGO = cd rust && CARGO_PROFILE_DEV_DEBUG=0 CARGO_INCREMENTAL=0 HUNKRAVY_LIB_DIR="$(CURDIR)/$(OUT)/$(1)" \
@@ -10,7 +10,7 @@ CARGO = cd rust && CARGO_PROFILE_DEV_DEBUG=0 CARGO_INCREMENTAL=0 HUNKRAVY_LIB_DI
 # call all of the library. The programs that measure run.
 check-rust: check-rust-both $(RUNNABLE:%=check-rust-%) check-bench
 
-check-rust-both: $(OUT)/both/libhunkravy.a
+check-rust-both: $(OUT)/both/libhunkravy.a check-raf-c
 	$(call CARGO,both) test --offline
 	if cargo clippy --version > /dev/null 2>&1 && cargo fmt --version > /dev/null 2>&1; then \
 		$(call CARGO,both) clippy --offline --all-targets -- -D warnings && \
@@ -18,6 +18,11 @@ check-rust-both: $(OUT)/both/libhunkravy.a
 	else \
 		echo 'left out: the lints and the layout of the Cargo package, since cargo clippy or fmt is not installed'; \
 	fi
+
+# The tests of random-access files once more, with the engine of the C library in the place of that of the package.
+check-raf-c: $(OUT)/both/libhunkravy.a
+	export RUSTFLAGS='--cfg c_engine -A dead_code'; \
+		$(call CARGO,both) test --offline --target-dir "$(CURDIR)/$(OUT)/both/cargo-c" --test raf --test forks --test system_calls
 
 check-rust-%: $(OUT)/%/libhunkravy.a
 	$(call CARGO,$*) test --offline --lib --test lines --test destinations

@@ -183,6 +183,42 @@ impl<V: Variant, const TAG_BYTES: usize> Cipher<V, TAG_BYTES> {
         Decryptor::new(self.begin(associated_data), plaintext)
     }
 
+    /// Decrypts a message in chunks, into `plaintext`, and returns it. `chunks` passes each chunk of the ciphertext to the function
+    /// that it is given, which is [`Decryptor::update`], and returns the tag.
+    ///
+    /// Unlike a [`Decryptor`] it cannot be leaked: whatever `chunks` does, only an authentic message is left in `plaintext`.
+    ///
+    /// # Errors
+    ///
+    /// That of `chunks`, or [`Error::InvalidTag`] if authentication fails. Zeros then overwrite the message, and if `chunks` panics.
+    ///
+    /// ```
+    /// use hunkravy::aegis256::{Aegis256, Error};
+    ///
+    /// let (ciphertext, tag) = Aegis256::<32>::new(&[1; 32], &[2; 32]).encrypt(b"a message", b"header");
+    /// let mut buffer = [0; 100];
+    /// let cipher = Aegis256::<32>::new(&[1; 32], &[2; 32]);
+    /// let message = cipher.decrypt_chunks(b"header", &mut buffer, |update| {
+    ///     for chunk in ciphertext.chunks(4) {
+    ///         update(chunk)?;
+    ///     }
+    ///     Ok::<_, Error>(tag)
+    /// })?;
+    /// assert_eq!(message, b"a message");
+    /// # Ok::<(), Error>(())
+    /// ```
+    #[track_caller]
+    pub fn decrypt_chunks<'a, E: From<Error>>(
+        &self,
+        associated_data: &[u8],
+        plaintext: &'a mut [u8],
+        chunks: impl FnOnce(&mut dyn FnMut(&[u8]) -> Result<(), Error>) -> Result<Tag<TAG_BYTES>, E>,
+    ) -> Result<&'a mut [u8], E> {
+        let mut decryptor = self.decryptor(associated_data, plaintext);
+        let tag = chunks(&mut |ciphertext| decryptor.update(ciphertext))?;
+        Ok(decryptor.finalize(&tag)?)
+    }
+
     /// Begins a message.
     #[track_caller]
     fn begin(&self, ad: &[u8]) -> State {

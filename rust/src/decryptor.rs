@@ -10,8 +10,11 @@ use core::{marker::PhantomData, mem};
 ///
 /// [`Cipher::decryptor`](crate::Cipher::decryptor) returns one. Nothing can read the destination while it is borrowed, and
 /// [`finalize`](Self::finalize) returns the message only if the tag is right. After a wrong tag, or if the decryptor is
-/// dropped first, zeros overwrite the message, and the rest of the destination is unchanged. A decryptor that is leaked, for
-/// example with [`mem::forget`](core::mem::forget), overwrites nothing.
+/// dropped first, zeros overwrite the message, and the rest of the destination is unchanged.
+///
+/// **A decryptor that is leaked overwrites nothing**, for example with [`mem::forget`](core::mem::forget): the destination then
+/// has a message that was not authenticated. With [`Cipher::decrypt_chunks`](crate::Cipher::decrypt_chunks) there is no
+/// decryptor to leak.
 ///
 /// ```
 /// use hunkravy::aegis128l::{Aegis128L, Error};
@@ -114,3 +117,44 @@ impl<V: Variant, const TAG_BYTES: usize> Drop for Decryptor<'_, V, TAG_BYTES> {
 }
 
 debug_as!([V: Variant, const TAG_BYTES: usize] Decryptor<'_, V, TAG_BYTES>, V::MODULE, "::Decryptor");
+
+#[cfg(test)]
+mod tests {
+    use crate::MAX_AEAD_BYTES;
+    use crate::aegis256x2::{Aegis256X2, Error};
+
+    fn cipher() -> Aegis256X2<16> {
+        Aegis256X2::new(&[1; 32], &[2; 32])
+    }
+
+    #[test]
+    fn a_decryptor_returns_an_error_and_goes_on() {
+        let mut buffer = [0xff; 2];
+        let mut decryptor = cipher().decryptor(b"", &mut buffer);
+        decryptor.state.message_bytes = MAX_AEAD_BYTES - 1;
+        for (count, expected) in [
+            (3, Err(Error::OutputBufferTooSmall)),
+            (2, Err(Error::MessageTooLong)),
+            (1, Ok(())),
+            (1, Err(Error::MessageTooLong)),
+        ] {
+            assert_eq!(decryptor.update(&[0; 3][..count]), expected);
+        }
+        drop(decryptor);
+        assert_eq!(buffer, [0, 0xff]);
+    }
+
+    /// A chunk is counted before it is decrypted, so that it is erased also if that panics.
+    #[cfg(feature = "std")]
+    #[test]
+    fn a_decryptor_that_panics_erases() {
+        use std::panic::{AssertUnwindSafe, catch_unwind};
+        let mut buffer = [0xff; 4];
+        let mut decryptor = cipher().decryptor(b"", &mut buffer);
+        decryptor.state = crate::exports::State::ENDED;
+        let update = AssertUnwindSafe(|| decryptor.update(&[1; 3]));
+        assert!(catch_unwind(update).is_err());
+        drop(decryptor);
+        assert_eq!(buffer, [0, 0, 0, 0xff]);
+    }
+}

@@ -96,3 +96,37 @@ impl<V: Variant, const TAG_BYTES: usize> Encryptor<V, TAG_BYTES> {
 }
 
 debug_as!([V: Variant, const TAG_BYTES: usize] Encryptor<V, TAG_BYTES>, V::MODULE, "::Encryptor");
+
+#[cfg(test)]
+mod tests {
+    use crate::MAX_AEAD_BYTES;
+    use crate::aegis256x2::{Aegis256X2, Encryptor};
+
+    /// An encryptor that has room for one more byte.
+    fn encryptor() -> Encryptor<16> {
+        let mut encryptor = Aegis256X2::new(&[1; 32], &[2; 32]).encryptor(b"");
+        encryptor.state.message_bytes = MAX_AEAD_BYTES - 1;
+        encryptor
+    }
+
+    #[test]
+    fn an_encryptor_counts() {
+        let mut encryptor = encryptor();
+        assert_eq!(encryptor.remaining(), 1);
+        encryptor.update(&[0], &mut [0]);
+        encryptor.update_in_place(&mut []);
+        assert_eq!(encryptor.remaining(), 0);
+    }
+
+    #[test]
+    #[should_panic = "the message is longer than 2^61 - 1 bytes"]
+    fn an_encryptor_panics() {
+        encryptor().update(&[0; 2], &mut [0; 2]);
+    }
+
+    #[test]
+    #[should_panic = "the message is longer than 2^61 - 1 bytes"]
+    fn an_encryptor_in_place_panics() {
+        encryptor().update_in_place(&mut [0; 2]);
+    }
+}

@@ -119,6 +119,42 @@ unsafe extern "C" {
     fn hunkravy_record_seal(st: &mut Records<'_>, record: *mut u8, message_len: usize) -> i32;
     fn hunkravy_record_seal_last(st: &mut Records<'_>, record: *mut u8, message_len: usize) -> i32;
     fn hunkravy_wipe(bytes: *mut u8, length: usize);
+    pub safe fn hunkravy_commit_step(number: u64, writes: u64, write: &mut u64) -> u32;
+    pub safe fn hunkravy_recovery_step(number: u64, writes: u64, write: &mut u64) -> u32;
+}
+
+/// The order of the steps of a commit or of a recovery with so many writes: one of the two functions above.
+pub type Order = extern "C" fn(u64, u64, &mut u64) -> u32;
+
+/// A step of a commit or of a recovery.
+#[derive(Clone, Copy)]
+pub enum Step {
+    WriteBeginning,
+    WriteRest,
+    SyncJournal,
+    ReplaceJournal,
+    /// Makes the write of this number.
+    MakeWrite(usize),
+    SyncFile,
+    EmptyJournal,
+}
+
+impl Step {
+    /// Returns the step of this number, or `None` after the last one.
+    pub fn of(order: Order, number: usize, writes: usize) -> Option<Self> {
+        let mut write = 0;
+        Some(match order(number as u64, writes as u64, &mut write) {
+            0 => return None,
+            1 => Step::WriteBeginning,
+            2 => Step::WriteRest,
+            3 => Step::SyncJournal,
+            4 => Step::ReplaceJournal,
+            5 => Step::MakeWrite(write as usize),
+            6 => Step::SyncFile,
+            7 => Step::EmptyJournal,
+            other => unreachable!("the library has no step {other}"),
+        })
+    }
 }
 
 /// Overwrites the bytes with zeros. The compiler cannot leave that out.

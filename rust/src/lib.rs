@@ -29,8 +29,6 @@ mod error;
 mod exports;
 #[cfg(feature = "std")]
 pub mod files;
-#[cfg(test)]
-mod limits;
 mod mac;
 #[cfg(feature = "std")]
 mod memory;

@@ -102,3 +102,18 @@ impl<V: Variant, const TAG_BYTES: usize> Clone for Mac<V, TAG_BYTES> {
 }
 
 debug_as!([V: Variant, const TAG_BYTES: usize] Mac<V, TAG_BYTES>, V::CIPHER, "Mac");
+
+#[cfg(test)]
+mod tests {
+    use crate::MAX_AEAD_BYTES;
+    use crate::aegis256x2::Aegis256X2Mac;
+
+    #[test]
+    #[should_panic = "the message is longer than 2^61 - 1 bytes"]
+    fn a_mac_panics() {
+        let mut mac = Aegis256X2Mac::<16>::new(&[1; 32]);
+        mac.state.message_bytes = MAX_AEAD_BYTES - 1;
+        assert_eq!(mac.remaining(), 1);
+        mac.update(&[0; 2]);
+    }
+}

@@ -1,7 +1,6 @@
 //! Memory that may run out.
 
 use alloc::vec::Vec;
-use core::hint::black_box;
 use std::io::{self, ErrorKind};
 
 /// Returns an empty vector with room for this number of values, or an error if memory runs out.
@@ -20,7 +19,8 @@ pub(crate) fn zeros(count: usize) -> io::Result<Vec<u8>> {
 }
 
 /// Returns an error if memory has run out, before calls of the standard library that would end the program.
+#[cfg(feature = "raf-core")]
 pub(crate) fn check_memory() -> io::Result<()> {
-    black_box(with_room::<u8>(65_536)?);
+    core::hint::black_box(with_room::<u8>(65_536)?);
     Ok(())
 }

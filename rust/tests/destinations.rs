@@ -37,6 +37,7 @@ macro_rules! in_each_variant {
 
 in_each_variant! {
     a_dropped_decryptor_leaves_zeros
+    decrypted_chunks_are_authentic_or_zeros
     a_chunk_without_room_changes_nothing
     a_long_message_is_the_same_in_chunks
     a_ciphertext_of_another_length_panics
@@ -54,6 +55,29 @@ mod checks {
             assert!(buffer[..written].iter().all(|byte| *byte == 0));
             assert!(buffer[written..].iter().all(|byte| *byte == UNWRITTEN));
         }
+    }
+
+    pub fn decrypted_chunks_are_authentic_or_zeros<V: Variant>() {
+        let (ciphertext, tag) = sealed::<V>(&[6; 40]);
+        let decrypt = |end: fn([u8; 16]) -> Result<[u8; 16], Error>| {
+            let mut buffer = [UNWRITTEN; 50];
+            let decrypted = catch_unwind(AssertUnwindSafe(|| {
+                let decrypted = cipher::<V>().decrypt_chunks(AD, &mut buffer, |update| {
+                    update(&ciphertext[..30])?;
+                    update(&ciphertext[30..])?;
+                    end(tag)
+                });
+                decrypted.map(|message| message == [6; 40])
+            }));
+            assert_eq!(buffer[40..], [UNWRITTEN; 10]);
+            (decrypted.ok(), buffer[..40].to_vec())
+        };
+        assert_eq!(decrypt(Ok), (Some(Ok(true)), vec![6; 40]));
+        let erased = |error| (Some(Err(error)), vec![0; 40]);
+        assert_eq!(decrypt(|_| Ok([0; 16])), erased(Error::InvalidTag));
+        let fails = |_| Err(Error::MessageTooLong);
+        assert_eq!(decrypt(fails), erased(Error::MessageTooLong));
+        assert_eq!(decrypt(|_| panic!("a chunk")), (None, vec![0; 40]));
     }
 
     pub fn a_chunk_without_room_changes_nothing<V: Variant>() {

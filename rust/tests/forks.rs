@@ -8,21 +8,22 @@ mod support;
 
 use hunkravy::raf::{Aegis256, Error, FileIo, Raf, RafBuilder, RafRng, Result};
 use std::cell::Cell;
+use std::env;
 use std::ffi::c_int;
 use std::fs;
 use std::io::{Read, Write};
+use std::os::unix::fs::symlink;
 use std::panic::{AssertUnwindSafe, catch_unwind};
+use std::path::PathBuf;
+use std::process::Command;
 use std::rc::Rc;
-use std::sync::atomic::{AtomicBool, Ordering::SeqCst};
-use std::thread;
-use support::{Folder, KEY, Source, outcome};
+use support::{Folder, KEY, Source, outcome, rows, word_of};
 
 // SAFETY: they are declared as in `unistd.h` and `sys/wait.h`.
 unsafe extern "C" {
     fn fork() -> c_int;
     fn waitpid(process: c_int, status: *mut c_int, options: c_int) -> c_int;
     safe fn _exit(status: c_int) -> !;
-    safe fn alarm(seconds: u32) -> u32;
 }
 
 /// Makes a child, and returns 0 in it.
@@ -96,21 +97,64 @@ fn is_locked_in_each(file: &mut File<impl RafRng>) -> bool {
     buf == [0; 4] && results == [true; 13]
 }
 
-#[test]
-fn each_function_in_a_child() {
+/// The child can use no function of the file, reads no random bytes, and does not unlock the file when it drops it.
+fn is_locked_in_a_child() -> bool {
     let (file, folder, calls) = file();
     let (before, count) = (bytes(&folder), calls.get());
     let mut file = Some(file);
-    assert!(is_so_in_a_child(|| {
+    let is_so = is_so_in_a_child(|| {
         let is_locked = is_locked_in_each(file.as_mut().unwrap());
         drop(file.take());
         is_locked && calls.get() == count
-    }));
-    assert_eq!(bytes(&folder), before);
-    // Nor has the child unlocked it.
-    assert!(is_locked(folder.open()));
-    drop(file);
-    assert_eq!(folder.text().len(), 5008);
+    });
+    is_so && bytes(&folder) == before && is_locked(folder.open())
+}
+
+/// Opens a file in another process, by running this test again.
+fn opens_elsewhere(folder: &Folder, expected: &str) -> bool {
+    let mut test = Command::new(env::current_exe().unwrap());
+    test.args(["locks_of_files", "--exact"]);
+    test.env(PATH, folder.file()).env(EXPECTED, expected);
+    test.output().unwrap().status.success()
+}
+
+const PATH: &str = "HUNKRAVY_PATH";
+const EXPECTED: &str = "HUNKRAVY_EXPECTED";
+
+/// Each row on locks in the table.
+#[test]
+fn locks_of_files() {
+    let open = |path| word_of(Raf::<Aegis256>::open_file(path, &KEY));
+    if let (Some(path), Ok(expected)) = (env::var_os(PATH), env::var(EXPECTED)) {
+        return assert_eq!(open(PathBuf::from(path)), expected);
+    }
+    for words in rows("lock") {
+        let (case, expected) = (words[1], words[2]);
+        let (mut file, folder, _) = file();
+        let link = folder.path("link");
+        symlink(folder.file(), &link).unwrap();
+        if case.starts_with("closed") {
+            file.commit().unwrap();
+            drop(file);
+            let elsewhere = case == "closed-other-process" && opens_elsewhere(&folder, expected);
+            assert!(elsewhere || open(folder.file()) == expected, "{case}");
+            continue;
+        }
+        let is_so = match case {
+            "same-process" => open(folder.file()) == expected,
+            "same-process-link" => open(link) == expected,
+            "other-process" => opens_elsewhere(&folder, expected),
+            "forked-child-opens" => is_so_in_a_child(|| open(folder.file()) == expected),
+            "forked-child-uses" => expected == "locked" && is_locked_in_a_child(),
+            "parent-after-child" => {
+                let mut file = Some(file);
+                let is_dropped = is_so_in_a_child(|| file.take().is_some());
+                is_dropped && word_of(file.unwrap().close()) == expected
+            }
+            _ => panic!("no test of the row {case}"),
+        };
+        assert!(is_so, "{case}");
+    }
 }
 
 /// A child that does nothing but drop the file undoes no commit that its parent has made meanwhile.
@@ -173,38 +217,6 @@ fn the_end_of_a_batch_in_a_child() {
     }
     assert!(succeeds(process));
     assert_eq!(bytes(&folder), before);
-}
-
-/// Does something in a child, or in a child of a child, and so on. Returns whether it returned true there.
-fn is_so_after_forks(forks: u32, done: &dyn Fn() -> bool) -> bool {
-    match forks {
-        0 => done(),
-        _ => is_so_in_a_child(|| is_so_after_forks(forks - 1, done)),
-    }
-}
-
-/// A child makes batches in files of its own, also if another thread was at the list of batches during the fork.
-#[test]
-fn a_batch_of_a_child_alone() {
-    let is_over = AtomicBool::new(false);
-    thread::scope(|scope| {
-        scope.spawn(|| {
-            let (mut file, _folder, _) = file();
-            while !is_over.load(SeqCst) {
-                file.batch(|_| Ok::<_, Error>(())).unwrap();
-            }
-        });
-        let is_made = || {
-            // It ends by a signal if it waits for ever.
-            alarm(100);
-            let (mut file, _folder, _) = file();
-            file.batch(|file| file.write(b"x", 0)).is_ok()
-        };
-        let mut generations = [1; 200].into_iter().chain([16; 40]);
-        let are_made = generations.all(|forks| is_so_after_forks(forks, &is_made));
-        is_over.store(true, SeqCst);
-        assert!(are_made);
-    });
 }
 
 /// A storage that was opened before the fork shares its lock with the child, which therefore cannot lock it.

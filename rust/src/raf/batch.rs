@@ -1,159 +1,102 @@
-//! Changes that are committed together, or discarded.
+//! Changes that are committed together, or undone.
 
-use super::changes::Changes;
-use super::system::forks;
-use super::{Algorithm, Error, Raf, RafIo, RafRng};
-use crate::memory::with_room;
-use alloc::vec::Vec;
-use core::ptr;
-use core::sync::atomic::{AtomicPtr, Ordering::SeqCst};
-use std::io::ErrorKind;
-use std::sync::{Mutex, MutexGuard, PoisonError};
+use super::engine::Savepoint;
+use super::{Algorithm, DefaultRng, Error, FileIo, JournalFile, Raf, RafCursor, RafIo, RafRng};
+use core::fmt;
 
-/// The number of the last batch, and the numbers of those that are being made, in all threads. A file knows its batch by the
-/// number, also if the program has moved the file elsewhere.
-struct Batches {
-    last: u64,
-    open: Vec<u64>,
+/// A file in a batch. [`Raf::batch`] passes it to its closure.
+///
+/// Its functions are those of [`Raf`] that commit nothing.
+pub struct Batch<
+    'f,
+    A: Algorithm,
+    I: RafIo = FileIo,
+    R: RafRng = DefaultRng,
+    J: RafIo = JournalFile,
+> {
+    file: &'f mut Raf<A, I, R, J>,
+    savepoint: Savepoint,
 }
 
-/// The batches of a process. After a fork the child makes its own list: if another thread held the parent's list during the fork,
-/// the child's copy is locked for ever. The child cannot use the files of the parent, and needs none of their batches.
-struct List {
-    forks: u32,
-    batches: Mutex<Batches>,
-}
-
-static LIST: AtomicPtr<List> = AtomicPtr::new(ptr::null_mut());
-
-/// Returns the batches of this process, if one was begun in it.
-fn batches() -> Option<MutexGuard<'static, Batches>> {
-    // SAFETY: a list is never freed.
-    let list = unsafe { LIST.load(SeqCst).as_ref() }?;
-    let is_own = list.forks == forks();
-    is_own.then(|| list.batches.lock().unwrap_or_else(PoisonError::into_inner))
-}
-
-/// Makes the list of this process, unless another thread does.
-fn make_list() -> Result<(), Error> {
-    let old = LIST.load(SeqCst);
-    let mut list = with_room(1)?;
-    let (last, open) = (0, Vec::new());
-    list.push(List {
-        forks: forks(),
-        batches: Mutex::new(Batches { last, open }),
-    });
-    let _ = LIST.compare_exchange(old, list.leak().as_mut_ptr(), SeqCst, SeqCst);
-    Ok(())
-}
-
-/// Begins a batch, and returns its number.
-fn begin() -> Result<u64, Error> {
-    let mut batches = loop {
-        match batches() {
-            Some(batches) => break batches,
-            None => make_list()?,
-        }
-    };
-    let reserved = batches.open.try_reserve(1);
-    reserved.map_err(|_| Error::Io(ErrorKind::OutOfMemory.into()))?;
-    batches.last += 1;
-    let number = batches.last;
-    batches.open.push(number);
-    Ok(number)
-}
-
-/// What a batch inside another goes back to if it fails.
-struct Savepoint {
-    changes: Changes,
-    size: u64,
-    /// The counter of the last commit: one in the inner batch has made the savepoint void.
-    counter: u64,
-}
-
-/// A batch that is being made. Unless it was completed, dropping it discards its changes.
-struct Batch<'a, A: Algorithm, I: RafIo, R: RafRng, J: RafIo> {
-    file: &'a mut Raf<A, I, R, J>,
-    number: u64,
-    /// A batch inside another has one, and the same number.
-    savepoint: Option<Savepoint>,
-    is_complete: bool,
-}
-
-impl<'a, A: Algorithm, I: RafIo, R: RafRng, J: RafIo> Batch<'a, A, I, R, J> {
-    /// Begins a batch, or one inside another.
-    fn begin(file: &'a mut Raf<A, I, R, J>) -> Result<Self, Error> {
-        file.check_is_usable()?;
-        let savepoint = if file.is_in_batch() {
-            Some(Savepoint {
-                changes: file.changes.try_clone()?,
-                size: file.size,
-                counter: file.counter,
-            })
-        } else {
-            file.commit()?;
-            file.batch = begin()?;
-            // So dropping the file commits no part of the batch.
-            file.is_cut_short = true;
-            None
-        };
-        Ok(Batch {
-            number: file.batch,
-            file,
-            savepoint,
-            is_complete: false,
-        })
-    }
-
-    /// Commits the changes, unless an outer batch will.
-    fn complete(&mut self) -> Result<(), Error> {
-        // Another file may have been put into its place.
-        if self.file.batch != self.number {
-            return Err(Error::Moved);
-        }
-        if self.savepoint.is_none() {
-            self.file.commit()?;
-            self.file.is_cut_short = false;
-        }
-        self.is_complete = true;
-        Ok(())
+impl<A: Algorithm, I: RafIo, R: RafRng, J: RafIo> fmt::Debug for Batch<'_, A, I, R, J> {
+    fn fmt(&self, f: &mut fmt::Formatter<'_>) -> fmt::Result {
+        f.debug_struct("Batch")
+            .field("size", &self.size())
+            .finish_non_exhaustive()
     }
 }
 
+impl<A: Algorithm, I: RafIo, R: RafRng, J: RafIo> Batch<'_, A, I, R, J> {
+    /// Returns the length of the contents in bytes.
+    #[must_use]
+    pub fn size(&self) -> u64 {
+        self.file.size()
+    }
+
+    /// Reads the contents, with [`Raf::read`].
+    ///
+    /// # Errors
+    ///
+    /// Those of [`Raf::read`].
+    pub fn read(&mut self, buf: &mut [u8], offset: u64) -> Result<usize, Error> {
+        self.file.read(buf, offset)
+    }
+
+    /// Writes over the contents, with [`Raf::write`], but commits nothing, even past the limit.
+    ///
+    /// # Errors
+    ///
+    /// Those of [`Raf::write`] after which nothing has changed. The batch goes on.
+    pub fn write(&mut self, data: &[u8], offset: u64) -> Result<usize, Error> {
+        self.file.write(data, offset)
+    }
+
+    /// Truncates or extends the contents, with [`Raf::truncate`], but commits nothing, even past the limit.
+    ///
+    /// # Errors
+    ///
+    /// Those of [`write`](Self::write).
+    pub fn truncate(&mut self, size: u64) -> Result<(), Error> {
+        self.file.truncate(size)
+    }
+
+    /// Returns a cursor at the start of the contents. Flushing it commits nothing.
+    pub fn cursor(&mut self) -> RafCursor<'_, A, I, R, J> {
+        self.file.cursor()
+    }
+
+    /// Makes a batch inside this one, with [`Raf::batch`].
+    ///
+    /// # Errors
+    ///
+    /// That of `changes`, or that memory runs out. The changes of the inner batch are then undone, and those of this one stay.
+    pub fn batch<T, E: From<Error>>(
+        &mut self,
+        changes: impl FnOnce(&mut Batch<'_, A, I, R, J>) -> Result<T, E>,
+    ) -> Result<T, E> {
+        self.file.batch(changes)
+    }
+}
+
+/// Undoes the changes of a batch that has not ended.
 impl<A: Algorithm, I: RafIo, R: RafRng, J: RafIo> Drop for Batch<'_, A, I, R, J> {
     fn drop(&mut self) {
-        if !self.file.owner.is_this() {
-            // A thread of the other process may have held the list, for ever in this one.
-            return;
-        }
-        let savepoint = self.savepoint.take();
-        if let (None, Some(mut batches)) = (&savepoint, batches()) {
-            batches.open.retain(|open| *open != self.number);
-        }
-        if self.file.batch == self.number && !self.is_complete {
-            self.file.go_back(savepoint);
-        }
+        self.file.engine.undo_batch(&mut self.savepoint);
     }
 }
 
 impl<A: Algorithm, I: RafIo, R: RafRng, J: RafIo> Raf<A, I, R, J> {
-    /// Calls `changes`, and commits what it changes if it returns `Ok`. If it returns `Err` or panics, its changes are discarded.
+    /// Calls `changes`, and then commits. If `changes` returns `Err` or panics, what it has changed is undone.
     ///
-    /// Changes that were made before are committed first. No write in the batch commits, so all of its changes are in memory,
-    /// even past the [limit](super::RafBuilder::buffer_limit). A [`commit`](Raf::commit) in `changes` commits what was changed
-    /// until then.
+    /// Changes that were made before the batch are committed with it, or stay in memory if it is undone. No write in the batch
+    /// commits, so all of its changes are in memory, even past the [limit](super::RafBuilder::buffer_limit). A change that fails
+    /// changes nothing, and the batch goes on unless `changes` returns the error.
     ///
-    /// A batch inside another commits nothing. If it fails, its own changes are discarded, and the outer one goes on. It copies the
-    /// changes of the outer one.
+    /// The end of a batch inside another commits nothing: its changes become those of the outer one.
     ///
     /// # Errors
     ///
-    /// The error of `changes`, or one of [`commit`](Raf::commit). Then the contents are those before the batch, unless the file
-    /// is broken.
-    ///
-    /// If `changes` has put another `Raf` in the place of this one, for example with [`core::mem::swap`], the batch neither commits
-    /// nor discards, and after `Ok` the error is [`Error::Moved`]. The changes of this one stay in it: dropping it does not commit
-    /// them, and a later commit does. Those of the other one are outside the batch, and dropping that one commits them.
+    /// The error of `changes`, or one of [`commit`](Raf::commit). The batch is then undone, unless the file is broken.
     ///
     /// ```
     /// # use hunkravy::raf::{Aegis256, Error, Raf};
@@ -169,29 +112,15 @@ impl<A: Algorithm, I: RafIo, R: RafRng, J: RafIo> Raf<A, I, R, J> {
     /// ```
     pub fn batch<T, E: From<Error>>(
         &mut self,
-        changes: impl FnOnce(&mut Self) -> core::result::Result<T, E>,
-    ) -> core::result::Result<T, E> {
-        let mut batch = Batch::begin(self)?;
-        let made = changes(batch.file)?;
-        batch.complete()?;
+        changes: impl FnOnce(&mut Batch<'_, A, I, R, J>) -> Result<T, E>,
+    ) -> Result<T, E> {
+        let savepoint = self.engine.begin_batch()?;
+        let mut batch = Batch {
+            file: self,
+            savepoint,
+        };
+        let made = changes(&mut batch)?;
+        batch.file.engine.end_batch(&batch.savepoint)?;
         Ok(made)
-    }
-
-    /// Returns whether the file is in a batch that is being made.
-    pub(super) fn is_in_batch(&self) -> bool {
-        let is_open = || batches().is_some_and(|batches| batches.open.contains(&self.batch));
-        self.batch != 0 && self.owner.seems_this() && is_open()
-    }
-
-    /// Discards the changes since a savepoint, or all since the last commit.
-    fn go_back(&mut self, savepoint: Option<Savepoint>) {
-        match savepoint {
-            Some(savepoint) if savepoint.counter == self.counter => {
-                self.shown = 0..0;
-                self.changes = savepoint.changes;
-                self.size = savepoint.size;
-            }
-            _ => self.discard(),
-        }
     }
 }

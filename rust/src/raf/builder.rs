@@ -1,14 +1,9 @@
 //! How a file is created or opened.
 
-use super::changes::Changes;
+use super::engine::{Draws, Engine, draw};
 use super::io::{Beside, FileIo, JournalChoice, JournalFile, RafIo};
-use super::journal::empty;
-use super::layout::{ID_BYTES, Layout, PageHeader, is_chunk_size};
-use super::recovery::recover;
-use super::rng::{DefaultRng, RafRng, checked_nonce};
-use super::system::Process;
+use super::rng::{DefaultRng, RafRng};
 use super::{Algorithm, Error, Raf, Result, default_chunk_size};
-use alloc::vec::Vec;
 use core::fmt;
 use core::marker::PhantomData;
 use std::io;
@@ -20,11 +15,11 @@ const DEFAULT_BUFFER_LIMIT: usize = 16 << 20;
 /// Creates and opens files.
 #[must_use]
 pub struct RafBuilder<A: Algorithm, R: RafRng = DefaultRng, J: JournalChoice = Beside> {
-    chunk_size: u32,
-    truncate: bool,
-    buffer_limit: usize,
-    rng: R,
-    journal: J,
+    pub(super) chunk_size: u32,
+    pub(super) truncate: bool,
+    pub(super) buffer_limit: usize,
+    pub(super) rng: R,
+    pub(super) journal: J,
     algorithm: PhantomData<A>,
 }
 
@@ -106,7 +101,7 @@ impl<A: Algorithm, R: RafRng, J: JournalChoice> RafBuilder<A, R, J> {
     ///
     /// Other errors are [`Error::Io`].
     pub fn create<I: RafIo>(mut self, io: I, key: &A::Key) -> Result<Raf<A, I, R, J::Journal>> {
-        let draws = self.draw()?;
+        let draws = draw::<A>(&mut self.rng, self.chunk_size)?;
         self.begin(io, key, draws)
     }
 
@@ -123,18 +118,10 @@ impl<A: Algorithm, R: RafRng, J: JournalChoice> RafBuilder<A, R, J> {
     /// - [`Error::Journal`]: the journal belongs to another file or to another state of this one, or is not a journal.
     ///
     /// After [`Error::Io`] nothing is lost: open the file again.
-    pub fn open<I: RafIo>(self, mut io: I, key: &A::Key) -> Result<Raf<A, I, R, J::Journal>> {
-        let mut builder = self.choose(&io);
-        // Whoever has just made a file locks it next, and must not find it locked.
-        if io.get_size()? == 0 && builder.journal.get_size()? == 0 {
-            return Err(Error::Header);
-        }
-        io.lock()?;
-        builder.journal.lock()?;
-        let header = recover::<A>(&mut io, &mut builder.journal, key)?;
-        let layout = Layout::of(key, &header);
-        let (pages, owner) = (layout.room_for_reads()?, Process::this()?);
-        Ok(builder.over(io, layout, pages, owner, &header))
+    pub fn open<I: RafIo>(self, io: I, key: &A::Key) -> Result<Raf<A, I, R, J::Journal>> {
+        let builder = self.choose(&io);
+        let engine = Engine::open(io, key, builder)?;
+        Ok(Raf { engine })
     }
 
     /// Creates a file at a path. The file, its header and its name are then synced.
@@ -149,7 +136,7 @@ impl<A: Algorithm, R: RafRng, J: JournalChoice> RafBuilder<A, R, J> {
         key: &A::Key,
     ) -> Result<Raf<A, FileIo, R, J::Journal>> {
         let path = path.as_ref();
-        let draws = self.draw()?;
+        let draws = draw::<A>(&mut self.rng, self.chunk_size)?;
         check_no_journal(path)?;
         let io = match FileIo::create_new(path) {
             Err(Error::Io(error))
@@ -195,76 +182,15 @@ impl<A: Algorithm, R: RafRng, J: JournalChoice> RafBuilder<A, R, J> {
         self.with(|rng, journal| (rng, journal.of(io)))
     }
 
-    /// Generates the id of a new file and the nonce of its header, before anything is changed.
-    fn draw(&mut self) -> Result<([u8; ID_BYTES], A::Nonce)> {
-        if !is_chunk_size(self.chunk_size) {
-            return Err(Error::ChunkSize);
-        }
-        let (mut id, mut nonce) = ([0; ID_BYTES], A::Nonce::default());
-        self.rng.fill(&mut id)?;
-        self.rng.fill(nonce.as_mut())?;
-        Ok((id, checked_nonce::<A>(nonce)?))
-    }
-
     fn begin<I: RafIo>(
         self,
-        mut io: I,
-        key: &A::Key,
-        (id, nonce): ([u8; ID_BYTES], A::Nonce),
-    ) -> Result<Raf<A, I, R, J::Journal>> {
-        io.lock()?;
-        let mut builder = self.choose(&io);
-        builder.journal.lock()?;
-        if builder.journal.get_size()? != 0 {
-            return Err(Error::Journal);
-        }
-        if !builder.truncate && io.get_size()? != 0 {
-            return Err(Error::Io(io::ErrorKind::AlreadyExists.into()));
-        }
-        let header = PageHeader {
-            page_size: builder.chunk_size,
-            id,
-            ..PageHeader::default()
-        };
-        let layout = Layout::of(key, &header);
-        let (pages, owner) = (layout.room_for_reads()?, Process::this()?);
-        let header_block = layout.header(0, 0, &nonce);
-        empty(&mut builder.journal)?;
-        io.set_size(0)?;
-        io.write_at(&header_block, 0)?;
-        io.sync()?;
-        io.check_path()?;
-        Ok(builder.over(io, layout, pages, owner, &header))
-    }
-}
-
-impl<A: Algorithm, R: RafRng, J: RafIo> RafBuilder<A, R, J> {
-    /// The open file that has this header.
-    fn over<I: RafIo>(
-        self,
         io: I,
-        layout: Layout<A>,
-        pages: Vec<u8>,
-        owner: Process,
-        header: &PageHeader,
-    ) -> Raf<A, I, R, J> {
-        Raf {
-            io,
-            journal: self.journal,
-            rng: self.rng,
-            pages,
-            shown: 0..0,
-            layout,
-            counter: header.counter,
-            stored: header.contents_len,
-            size: header.contents_len,
-            changes: Changes::default(),
-            buffer_limit: self.buffer_limit,
-            is_broken: false,
-            owner,
-            batch: 0,
-            is_cut_short: false,
-        }
+        key: &A::Key,
+        draws: Draws<A>,
+    ) -> Result<Raf<A, I, R, J::Journal>> {
+        let builder = self.choose(&io);
+        let engine = Engine::create(io, key, builder, draws)?;
+        Ok(Raf { engine })
     }
 }
 

@@ -31,7 +31,7 @@ impl<A: Algorithm, I: RafIo, R: RafRng, J: RafIo> Write for RafCursor<'_, A, I, 
     /// Writes with [`Raf::write`]. Writing no bytes past the end does not extend the contents.
     fn write(&mut self, data: &[u8]) -> io::Result<usize> {
         if data.is_empty() {
-            self.file.check_is_usable()?;
+            self.file.engine.check()?;
             return Ok(0);
         }
         let count = self.file.write(data, self.offset)?;
@@ -41,8 +41,8 @@ impl<A: Algorithm, I: RafIo, R: RafRng, J: RafIo> Write for RafCursor<'_, A, I, 
 
     /// Commits the changes with [`Raf::commit`]. In a [batch](Raf::batch) they wait for its end.
     fn flush(&mut self) -> io::Result<()> {
-        if self.file.is_in_batch() {
-            return Ok(self.file.check_is_usable()?);
+        if self.file.engine.is_in_batch() {
+            return Ok(self.file.engine.check()?);
         }
         Ok(self.file.commit()?)
     }

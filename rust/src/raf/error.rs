@@ -26,10 +26,29 @@ pub enum Error {
     /// The file is open elsewhere, in this process or in another. After a fork it is open in the process that opened it.
     Locked,
     /// The file was renamed, removed or replaced while it was open, or it has several names (hard links). Its journal would not
-    /// be found. Or a batch has put another [`Raf`](super::Raf) in its place.
+    /// be found.
     Moved,
     /// Writing a commit failed. Open the file again.
     Broken,
+}
+
+impl Error {
+    /// Returns an error of a change or of a commit once more. One of the storage has the same number or kind.
+    pub(super) fn again(&self) -> Self {
+        match self {
+            Error::Io(error) => match error.raw_os_error() {
+                Some(number) => Error::Io(io::Error::from_raw_os_error(number)),
+                None => Error::Io(error.kind().into()),
+            },
+            Error::Damaged(page) => Error::Damaged(*page),
+            Error::Header => Error::Header,
+            Error::Journal => Error::Journal,
+            Error::Moved => Error::Moved,
+            Error::TooLong => Error::TooLong,
+            Error::Locked => Error::Locked,
+            _ => Error::Broken,
+        }
+    }
 }
 
 /// The result of a function on files.

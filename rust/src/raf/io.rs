@@ -82,6 +82,21 @@ pub trait RafIo {
         Ok(())
     }
 
+    /// Makes `bytes` all that it has, such that a crash leaves the old ones or these, and syncs them. It is called when a commit is
+    /// completed, with the bytes that a journal already has: after a [`sync`](RafIo::sync) that failed, the disk may not have them.
+    ///
+    /// The default writes them over the old ones, and syncs. It is for storages on which bytes that are written over themselves
+    /// survive a crash: one that may tear them must replace them in another way, for example by renaming a copy.
+    ///
+    /// # Errors
+    ///
+    /// The system's, for example on a full disk. Then it has the old bytes or the new ones.
+    fn replace(&mut self, bytes: &[u8]) -> io::Result<()> {
+        self.write_at(bytes, 0)?;
+        self.set_size(bytes.len() as u64)?;
+        self.sync()
+    }
+
     /// Locks the storage against all others, until it is dropped. It is called once, before anything is written, and before
     /// anything is read except the size.
     ///
@@ -351,7 +366,7 @@ impl RafIo for NoJournal {
 /// - The owner of the journal may always read and write it.
 /// - All others get no permission that the group lacks. They may be unable to complete a commit, or to commit.
 /// - If the owner or the group cannot be set, the users of the file may have to wait until the maker of the journal or root opens
-///   the file.
+///   the file. So may those of a file in a folder with the sticky bit.
 /// - ACLs, and users and groups that a user namespace hides, are not checked. Users who may write the journal through them can make
 ///   a crash leave some of the changes of a commit.
 ///
@@ -359,8 +374,11 @@ impl RafIo for NoJournal {
 /// [`io::ErrorKind::InvalidData`], and nothing is changed. So is one that a user may write who may not write the file, by
 /// owner, group and mode. The owner of a file counts as a member of its group.
 ///
-/// A file of this name with up to 512 bytes may be the rest of a journal after a crash. Opening removes it, and a commit removes an
-/// empty one. If an empty one cannot be removed, opening ignores it, and a commit fails with the changes still in memory.
+/// Before a commit is completed, a synced copy, `PATH.jrncopy`, is renamed over the journal. This needs room: on a full disk the file
+/// does not open until there is some, and nothing is lost.
+///
+/// A journal of up to 512 bytes may be the rest of one after a crash. Opening removes it, and a commit removes an empty one. If an
+/// empty one cannot be removed, a commit fails with the changes still in memory. If it cannot be opened either, opening fails.
 ///
 /// Without a path, such as for a storage in memory, it is the same as [`NoJournal`].
 #[derive(Debug)]
@@ -388,7 +406,11 @@ impl JournalFile {
     /// Opens the file, or returns `None` if there is none and none is to be made.
     fn open(&mut self, create: bool) -> io::Result<Option<&mut File>> {
         if let (Some(path), None) = (&self.path, &self.file) {
-            self.file = match left_at(path, create)? {
+            if create && empty_at(path)?.is_some() {
+                // Its owner could write it.
+                fs::remove_file(path)?;
+            }
+            self.file = match journal_at(path)? {
                 Some(found) => Some(open_same(path, &found)?),
                 None if create => Some(new_journal(path)?),
                 None => None,
@@ -430,16 +452,23 @@ fn journal_at(path: &Path) -> io::Result<Option<Metadata>> {
     }
 }
 
-/// Removes an empty journal, and returns what is then at the path. If `create` is set, an empty journal that cannot be removed
-/// is an error, because its owner could write it. The file of the journal must be locked.
-fn left_at(path: &Path, create: bool) -> io::Result<Option<Metadata>> {
-    if found_at(path)?.is_some_and(|found| is_empty(&found)) {
-        return match fs::remove_file(path) {
-            Err(error) if create => Err(error),
-            _ => Ok(None),
-        };
-    }
-    journal_at(path)
+/// Returns what is at the path of a journal, if it is an empty file.
+fn empty_at(path: &Path) -> io::Result<Option<Metadata>> {
+    Ok(found_at(path)?.filter(is_empty))
+}
+
+/// Opens an empty journal and empties it once more: after a sync that failed the disk may have all of its bytes. Removes one that
+/// cannot be opened.
+fn emptied_at(path: &Path) -> io::Result<Option<File>> {
+    let Some(found) = empty_at(path)? else {
+        return Ok(None);
+    };
+    let Ok(file) = open_same(path, &found) else {
+        fs::remove_file(path)?;
+        return sync_folder(path).map(|()| None);
+    };
+    file.set_len(0)?;
+    Ok(Some(file))
 }
 
 fn is_empty(found: &Metadata) -> bool {
@@ -583,8 +612,8 @@ impl RafIo for JournalFile {
 
     /// Truncates no file that was not opened before.
     fn set_size(&mut self, size: u64) -> io::Result<()> {
-        if let (Some(path), None, 0) = (&self.path, &self.file, size) {
-            return left_at(path, false).map(drop);
+        if self.file.is_none() && size == 0 {
+            return Ok(());
         }
         let file = self.open(true)?;
         file.map_or(Ok(()), |file| file.set_len(size))
@@ -593,6 +622,31 @@ impl RafIo for JournalFile {
     fn forget(&mut self) -> io::Result<()> {
         let file = self.open(false)?;
         file.map_or(Ok(()), |file| forget(file))
+    }
+
+    fn keeps_bytes(&self) -> bool {
+        self.path.is_some()
+    }
+
+    /// Renames a copy over the journal, which has the same owner, group and mode.
+    fn replace(&mut self, bytes: &[u8]) -> io::Result<()> {
+        let Some(path) = &self.path else {
+            return Ok(());
+        };
+        check_memory()?;
+        let copy = path.with_extension("jrncopy");
+        let _ = fs::remove_file(&copy);
+        let made = new_journal(&copy)?;
+        let synced = made.write_all_at(bytes, 0).and_then(|()| made.sync_all());
+        if let Err(error) = synced.and_then(|()| fs::rename(&copy, path)) {
+            // In a sticky folder it would keep out other users who may replace the journal.
+            let _ = fs::remove_file(&copy);
+            return Err(error);
+        }
+        self.file = Some(made);
+        sync_folder(path)?;
+        self.is_name_synced = true;
+        Ok(())
     }
 
     /// Makes the journal, which is empty unless another file has its name. An error if there can be none, or its name cannot be
@@ -607,13 +661,15 @@ impl RafIo for JournalFile {
         Ok(())
     }
 
-    /// Syncs the file and its name. If it is empty it is then removed, and so is an empty one that a crash has left, if it can be.
+    /// Syncs the file and its name. If it is empty it is then removed, and so is an empty one that was left, if it can be.
     fn sync(&mut self) -> io::Result<()> {
         let Some(path) = &self.path else {
             return Ok(());
         };
+        if self.file.is_none() {
+            self.file = emptied_at(path)?;
+        }
         let Some(file) = &self.file else {
-            let _ = left_at(path, false);
             return Ok(());
         };
         file.sync_all()?;
@@ -665,7 +721,7 @@ impl<J: RafIo> JournalChoice for J {
 pub mod tests {
     use super::*;
     use alloc::{format, vec};
-    use std::os::unix::fs::{chown, symlink};
+    use std::os::unix::fs::symlink;
 
     /// The paths of a file and of its journal, where nothing is left.
     pub struct Paths(pub PathBuf, pub PathBuf);
@@ -684,28 +740,6 @@ pub mod tests {
             let _ = fs::remove_file(&self.0);
             let _ = fs::remove_file(&self.1);
         }
-    }
-
-    fn set_mode(path: &Path, mode: u32) {
-        fs::set_permissions(path, Permissions::from_mode(mode)).unwrap();
-    }
-
-    #[test]
-    fn what_cannot_be_synced_or_cut() {
-        // A device can be neither: so each of these calls reaches the system.
-        let device = || options().open("/dev/null").unwrap();
-        let mut io = FileIo::new(device());
-        assert!(io.sync().is_err() && io.set_size(0).is_err());
-        // There is nothing at its path, so that no fault can remove anything.
-        let mut journal = JournalFile::at(Some(std::env::temp_dir().join("hunkravy-none/none")));
-        journal.file = Some(device());
-        assert!(journal.sync().is_err() && journal.set_size(0).is_err());
-        assert!(journal.check_path().is_err());
-        // A folder that can be read, but in which no file can be made.
-        let mut journal = JournalFile::at(Some("/proc/none.journal".into()));
-        assert!(journal.check_path().is_err());
-        assert!(sync_folder(Path::new("/proc/file")).is_err());
-        assert!(sync_folder(Path::new("file")).is_ok());
     }
 
     /// A new file in which another program has written before it was locked is not removed.
@@ -734,43 +768,6 @@ pub mod tests {
         assert!(other.lock().is_ok());
     }
 
-    /// A journal gets the mode, the owner and the group of its file. It is rejected if others may write it, or if another user owns it.
-    #[test]
-    fn modes() {
-        let Paths(path, at) = &Paths::new("modes");
-        let open = |create| JournalFile::at(Some(at.clone())).open(create).map(drop);
-        for (mode, own) in [
-            (0o600, 0o600),
-            (0o644, 0o644),
-            (0o660, 0o660),
-            (0o666, 0o666),
-            (0o606, 0o600),
-        ] {
-            File::create(path).unwrap();
-            set_mode(path, mode);
-            // Only root can give files to another user, or to a group that it is not in.
-            let _ = chown(path, Some(65533), Some(65533));
-            open(true).unwrap();
-            fs::write(at, [1]).unwrap();
-            let (made, of) = (at.metadata().unwrap(), path.metadata().unwrap());
-            assert_eq!((made.mode() & 0o777, made.uid()), (own, of.uid()));
-            assert_eq!(made.gid(), of.gid());
-            open(false).unwrap();
-            let (all_may, group_may) = (own & OTHERS_WRITE != 0, own & GROUP_WRITES != 0);
-            for (other, is_safe) in [(0o602, all_may), (0o620, group_may)] {
-                set_mode(at, other);
-                assert_eq!(open(false).is_ok(), is_safe, "{mode:o} {other:o}");
-            }
-            set_mode(at, 0o600);
-            for (user, is_safe) in [(65532, group_may), (0, true)] {
-                if chown(at, Some(user), None).is_ok() {
-                    assert_eq!(open(false).is_ok(), is_safe, "{mode:o} {user}");
-                }
-            }
-            fs::remove_file(at).unwrap();
-        }
-    }
-
     /// A new journal is for its owner alone until it has the mode of its file. It takes no other file and follows no link. Opening
     /// rejects any other file than was found.
     #[test]
@@ -789,22 +786,6 @@ pub mod tests {
         assert!(new_journal(at).is_err() && !path.exists());
     }
 
-    #[test]
-    fn modes_in_other_groups() {
-        for (of, in_its_group, in_another) in [
-            (0o600, 0o600, 0o600),
-            (0o660, 0o660, 0o600),
-            (0o666, 0o666, 0o666),
-            (0o464, 0o664, 0o644),
-            (0o4755, 0o644, 0o644),
-            (0o606, 0o600, 0o600),
-            (0o646, 0o644, 0o644),
-        ] {
-            assert_eq!(mode_beside(of, true), in_its_group, "{of:o}");
-            assert_eq!(mode_beside(of, false), in_another, "{of:o}");
-        }
-    }
-
     /// Zeros are written in the place of room that a file system cannot take, and nowhere else.
     #[test]
     fn zeros_for_room() {
@@ -821,54 +802,20 @@ pub mod tests {
         }
     }
 
-    /// An empty journal is removed when it is opened, whoever may open it, and another file of its name is not.
+    /// A journal that was emptied is removed, and another file that has its name by then is not.
     #[test]
-    fn empty_journals() {
+    fn emptied_journals() {
         let Paths(_, at) = &Paths::new("empty");
-        File::create(at).unwrap();
         let mut journal = JournalFile::at(Some(at.clone()));
-        journal.set_size(0).unwrap();
-        assert!(!at.exists() && journal.file.is_none());
-        // A commit makes its own in place of it.
-        let left = File::create(at).unwrap();
-        journal.check_path().unwrap();
-        journal.write_at(b"journal", 0).unwrap();
-        assert_eq!(fs::read(at).unwrap(), b"journal");
-        assert_eq!(left.metadata().unwrap().len(), 0);
-        journal.sync().unwrap();
-        assert!(journal.is_name_synced);
-        // The next one has a name that is to be synced too.
-        journal.set_size(0).unwrap();
-        journal.sync().unwrap();
-        assert!(!at.exists() && journal.file.is_none() && !journal.is_name_synced);
-        File::create(at).unwrap();
-        journal.file = Some(options().open(at).unwrap());
-        fs::remove_file(at).unwrap();
-        fs::write(at, "another").unwrap();
-        journal.sync().unwrap();
-        assert_eq!(fs::read(at).unwrap(), b"another");
-    }
-
-    /// The name of a file is synced before its first commit, once, and so is that of a journal that is not empty.
-    #[test]
-    fn the_name_of_a_new_file_is_synced_once() {
-        let Paths(path, _) = &Paths::new("names");
-        let made = FileIo::create_new(path).unwrap();
-        let (created, opened) = (FileIo::create(path).unwrap(), FileIo::open(path).unwrap());
-        for mut io in [made, created, opened] {
-            // It has a name, in a folder that cannot be synced.
-            io.path = Some("/proc/version".into());
-            io.file = File::open("/proc/version").unwrap();
-            assert!(io.check_name().is_ok(), "{:?}", io.check_name());
-            assert!(io.check_path().is_err() && !io.is_name_synced);
+        for is_replaced in [false, true] {
+            journal.check_path().unwrap();
+            if is_replaced {
+                fs::remove_file(at).unwrap();
+                fs::write(at, "another").unwrap();
+            }
+            journal.sync().unwrap();
+            assert_eq!(at.exists(), is_replaced);
         }
-        let mut journal = JournalFile::at(Some("/proc/file".into()));
-        journal.file = Some(options().open(path).unwrap());
-        journal.set_size(1).unwrap();
-        assert!(journal.sync().is_err());
-        journal.is_name_synced = true;
-        assert!(journal.sync().is_ok());
-        let mut opened = FileIo::open(path).unwrap();
-        assert!(opened.check_path().is_ok() && opened.is_name_synced);
+        assert_eq!(fs::read(at).unwrap(), b"another");
     }
 }

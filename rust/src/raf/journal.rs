@@ -1,11 +1,11 @@
-//! Writes that are all there after a crash, or none of them, by way of a journal.
+//! The steps of a commit and of a recovery, with which all writes of a commit are there after a crash, or none.
 //!
-//! A journal has the writes, which are encrypted pages and headers, and their MAC. Its bytes come from proved functions of the
-//! library. The proved crate `aegis_storage` writes the same bytes between the same syncs. Here neighbouring writes are one call.
+//! A journal has the writes, which are encrypted pages and headers, and their MAC. Its bytes, and the order of the steps, come
+//! from proved functions of the library. Here neighbouring writes are one call.
 
 use super::Algorithm;
 use super::io::RafIo;
-use crate::exports::{Refusal, State};
+use crate::exports::{Order, Refusal, State, Step};
 use crate::exports::{journal_check, journal_entry, journal_final, journal_next};
 use crate::memory::with_room;
 use alloc::vec::Vec;
@@ -34,58 +34,87 @@ pub struct JournalSeal {
     pub start: [u8; START_BYTES],
 }
 
-/// Makes the writes, the first of them first, so that after a crash all of them are made or none. The journal must be empty.
-pub fn commit(
-    io: &mut impl RafIo,
-    journal: &mut impl RafIo,
-    seal: JournalSeal,
-    writes: &[PendingWrite<'_>],
-    buffer: &mut Vec<u8>,
-) -> io::Result<()> {
-    if !journal.keeps_bytes() {
-        return write_and_sync(io, writes.iter().copied(), buffer);
-    }
-    write_journal(journal, seal, writes, buffer)?;
-    write_and_sync(io, writes.iter().copied(), buffer)?;
-    empty(journal)
+/// What the steps of a commit or of a recovery work on.
+pub struct Work<'w, I, J> {
+    pub io: &'w mut I,
+    pub journal: &'w mut J,
+    pub writes: &'w [PendingWrite<'w>],
+    /// Of a commit: the MAC of the journal so far, and the journal in front of its writes. Of a recovery: all of the journal.
+    pub state: &'w mut State,
+    pub bytes: &'w [u8],
+    pub neighbours: Neighbours,
+    /// Whether a write was made, or is among the neighbours.
+    pub is_begun: bool,
 }
 
-/// Writes a journal, and syncs it: the beginning first, so that a longer journal has it after any crash. No later write is in
-/// its sector.
-fn write_journal(
-    journal: &mut impl RafIo,
-    seal: JournalSeal,
-    writes: &[PendingWrite<'_>],
-    buffer: &mut Vec<u8>,
-) -> io::Result<()> {
-    journal.write_at(&seal.start[..BEGINNING_BYTES], 0)?;
-    journal.sync()?;
-    let mut neighbours = Neighbours::new(journal, buffer);
-    let mut place = BEGINNING_BYTES as u64;
-    pass_content(seal, writes, |bytes| {
-        neighbours.write(bytes, place)?;
-        place += bytes.len() as u64;
+impl<I: RafIo, J: RafIo> Work<'_, I, J> {
+    /// Takes all steps in this order, or up to the first one that fails.
+    pub fn take_steps(&mut self, order: Order) -> io::Result<()> {
+        let mut number = 0;
+        while let Some(step) = Step::of(order, number, self.writes.len()) {
+            self.take(step)?;
+            number += 1;
+        }
         Ok(())
-    })?;
-    neighbours.finish()
+    }
+
+    fn take(&mut self, step: Step) -> io::Result<()> {
+        if !matches!(step, Step::MakeWrite(_)) {
+            self.neighbours.flush(self.io)?;
+        }
+        match step {
+            Step::WriteBeginning | Step::WriteRest if !self.journal.keeps_bytes() => Ok(()),
+            Step::WriteBeginning => self.journal.write_at(&self.bytes[..BEGINNING_BYTES], 0),
+            Step::WriteRest => self.write_rest(),
+            Step::SyncJournal => self.journal.sync(),
+            Step::ReplaceJournal => self.journal.replace(self.bytes),
+            Step::EmptyJournal => self.journal.set_size(0),
+            Step::SyncFile => self.io.sync(),
+            Step::MakeWrite(number) => {
+                let PendingWrite { place, bytes } = self.writes[number];
+                self.is_begun = true;
+                self.neighbours.write(self.io, place, bytes)
+            }
+        }
+    }
+
+    /// Writes the journal after its beginning.
+    fn write_rest(&mut self) -> io::Result<()> {
+        let mut place = BEGINNING_BYTES as u64;
+        let rest = &self.bytes[BEGINNING_BYTES..];
+        pass_content(self.state, rest, self.writes, |bytes| {
+            self.neighbours.write(self.journal, place, bytes)?;
+            place += bytes.len() as u64;
+            Ok(())
+        })?;
+        self.neighbours.flush(self.journal)
+    }
+
+    /// Empties the journal of a commit that has failed before its first write. Returns whether nothing of the commit is left.
+    pub fn undo(&mut self) -> bool {
+        self.neighbours.bytes.clear();
+        let steps = [Step::EmptyJournal, Step::SyncJournal];
+        !self.is_begun && steps.into_iter().all(|step| self.take(step).is_ok())
+    }
 }
 
-/// Passes on the bytes of a journal after its beginning.
+/// Passes on the bytes of a journal after its beginning: the rest of those in front of its writes, these, and the MAC.
 fn pass_content(
-    mut seal: JournalSeal,
+    state: &mut State,
+    rest: &[u8],
     writes: &[PendingWrite<'_>],
     mut pass: impl FnMut(&[u8]) -> io::Result<()>,
 ) -> io::Result<()> {
-    pass(&seal.start[BEGINNING_BYTES..])?;
+    pass(rest)?;
     for write in writes {
         let mut head = [0; HEAD_BYTES];
-        let answer = journal_entry(&mut seal.state, write.place, write.bytes, &mut head);
+        let answer = journal_entry(state, write.place, write.bytes, &mut head);
         answer.map_err(too_long)?;
         pass(&head)?;
         pass(write.bytes)?;
     }
     let mut mac = [0; MAC_BYTES];
-    journal_final(&mut seal.state, &mut mac).map_err(too_long)?;
+    journal_final(state, &mut mac).map_err(too_long)?;
     pass(&mac)
 }
 
@@ -94,78 +123,44 @@ fn too_long(_refusal: Refusal) -> io::Error {
     io::ErrorKind::InvalidInput.into()
 }
 
-/// Makes the writes, and syncs them.
-pub fn write_and_sync<'b>(
-    io: &mut impl RafIo,
-    writes: impl IntoIterator<Item = PendingWrite<'b>>,
-    buffer: &mut Vec<u8>,
-) -> io::Result<()> {
-    let mut neighbours = Neighbours::new(io, buffer);
-    for write in writes {
-        neighbours.write(write.bytes, write.place)?;
-    }
-    neighbours.finish()
-}
-
 /// The most bytes that are written in one call. A longer write is a call of its own.
-const MOST_BYTES: usize = 256 * 1024;
+pub const MOST_BYTES: usize = 256 * 1024;
 
-/// Takes the memory in which neighbours are gathered, before anything is written.
-pub fn buffer() -> io::Result<Vec<u8>> {
-    with_room(MOST_BYTES)
-}
-
-/// Writes in their order, neighbours in one call.
-struct Neighbours<'i, I> {
-    io: &'i mut I,
+/// Bytes that are gathered for one call.
+pub struct Neighbours {
     place: u64,
-    bytes: &'i mut Vec<u8>,
+    bytes: Vec<u8>,
 }
 
-impl<'i, I: RafIo> Neighbours<'i, I> {
-    fn new(io: &'i mut I, buffer: &'i mut Vec<u8>) -> Self {
-        buffer.clear();
-        Neighbours {
-            io,
-            place: 0,
-            bytes: buffer,
-        }
+impl Neighbours {
+    /// Takes the memory for so many bytes, or for as many as are written in one call.
+    pub fn with_room(bytes: usize) -> io::Result<Self> {
+        let bytes = with_room(bytes.min(MOST_BYTES))?;
+        Ok(Neighbours { place: 0, bytes })
     }
 
     /// Adds a write. The bytes may be written later, with their neighbours.
-    fn write(&mut self, bytes: &[u8], place: u64) -> io::Result<()> {
+    fn write(&mut self, io: &mut impl RafIo, place: u64, bytes: &[u8]) -> io::Result<()> {
         let end = self.place + self.bytes.len() as u64;
         if place != end || self.bytes.len() + bytes.len() > MOST_BYTES {
-            self.flush()?;
+            self.flush(io)?;
             self.place = place;
         }
         if bytes.len() > MOST_BYTES {
             self.place += bytes.len() as u64;
-            return self.io.write_at(bytes, place);
+            return io.write_at(bytes, place);
         }
         self.bytes.extend_from_slice(bytes);
         Ok(())
     }
 
-    fn flush(&mut self) -> io::Result<()> {
+    fn flush(&mut self, io: &mut impl RafIo) -> io::Result<()> {
         if !self.bytes.is_empty() {
-            self.io.write_at(self.bytes, self.place)?;
+            io.write_at(&self.bytes, self.place)?;
             self.bytes.clear();
         }
         Ok(())
     }
-
-    /// Makes the writes that are left, and syncs them all.
-    fn finish(mut self) -> io::Result<()> {
-        self.flush()?;
-        self.io.sync()
-    }
-}
-
-/// Empties a journal, and syncs that.
-pub fn empty(journal: &mut impl RafIo) -> io::Result<()> {
-    journal.set_size(0)?;
-    journal.sync()
 }
 
 /// Returns the part of a journal that has writes which are to be made again, or no bytes. After them the journal is to be emptied.
@@ -215,9 +210,10 @@ mod tests {
             ((1 << 63) - 3, false),
             (u64::MAX, false),
         ] {
-            let bytes = &[4; 3];
-            let mut journal = begun().start[..512].to_vec();
-            let passed = pass_content(begun(), &[PendingWrite { place, bytes }], |bytes| {
+            let (bytes, mut begun) = (&[4; 3], begun());
+            let mut journal = begun.start[..512].to_vec();
+            let (rest, writes) = (&begun.start[512..], &[PendingWrite { place, bytes }]);
+            let passed = pass_content(&mut begun.state, rest, writes, |bytes| {
                 journal.extend_from_slice(bytes);
                 Ok(())
             });

@@ -66,13 +66,6 @@ impl<A: Algorithm> Layout<A> {
         FIRST_PAGE + number * self.page_bytes() as u64
     }
 
-    /// The number of the page that begins at a place, if one does.
-    pub fn page_at(&self, place: u64) -> Option<u64> {
-        let pages = place.checked_sub(FIRST_PAGE)?;
-        let page_bytes = self.page_bytes() as u64;
-        (pages % page_bytes == 0).then(|| pages / page_bytes)
-    }
-
     /// How many pages contents of `size` bytes have.
     pub fn page_count(&self, size: u64) -> u64 {
         size.div_ceil(u64::from(self.chunk_size))

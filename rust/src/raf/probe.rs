@@ -1,7 +1,39 @@
 //! What a file shows without its key.
 
 use super::layout::{HEADER_BLOCK_BYTES, MAGIC, PLAINTEXT_HEADER_BYTES, is_chunk_size};
-use super::{AlgorithmId, Error, RafIo, Result};
+use super::{Error, RafIo, Result};
+
+/// The algorithm that a header names.
+#[derive(Clone, Copy, Debug, PartialEq, Eq, Hash)]
+pub enum AlgorithmId {
+    /// [`Aegis128L`]
+    Aegis128L,
+    /// [`Aegis128X2`]
+    Aegis128X2,
+    /// [`Aegis128X4`]
+    Aegis128X4,
+    /// [`Aegis256`]
+    Aegis256,
+    /// [`Aegis256X2`]
+    Aegis256X2,
+    /// [`Aegis256X4`]
+    Aegis256X4,
+}
+
+impl AlgorithmId {
+    /// Returns the algorithm of the byte in a header: the length of its keys, and its number of lanes.
+    fn of_byte(byte: u8) -> Option<Self> {
+        Some(match byte {
+            17 => AlgorithmId::Aegis128L,
+            18 => AlgorithmId::Aegis128X2,
+            20 => AlgorithmId::Aegis128X4,
+            33 => AlgorithmId::Aegis256,
+            34 => AlgorithmId::Aegis256X2,
+            36 => AlgorithmId::Aegis256X4,
+            _ => return None,
+        })
+    }
+}
 
 /// The plaintext part of a header. It is not verified.
 #[derive(Clone, Copy, Debug, PartialEq, Eq)]

@@ -1,13 +1,12 @@
 //! Opening a file and its journal: completing a commit that was interrupted.
 
 use super::io::RafIo;
-use super::journal::{BEGINNING_BYTES, NONCE_BYTES, buffer};
-use super::journal::{checked_writes, empty, journaled_writes, write_and_sync};
+use super::journal::{BEGINNING_BYTES, NONCE_BYTES, Neighbours, Work};
+use super::journal::{checked_writes, journaled_writes};
 use super::layout::{HEADER_BLOCK_BYTES, Layout, PageHeader, open_header};
 use super::{Algorithm, Error, Result, default_chunk_size};
-use crate::exports::Refusal;
-use crate::memory::zeros;
-use crate::wipe::Wiped;
+use crate::exports::{Refusal, State, hunkravy_recovery_step};
+use crate::memory::{with_room, zeros};
 use alloc::vec::Vec;
 use std::io;
 
@@ -70,41 +69,6 @@ impl FileStart {
         }
         Ok(content)
     }
-
-    /// Returns whether none of the writes of a commit was begun: the file has the old header, and each page that it had opens and
-    /// is none of those writes.
-    fn is_before<A: Algorithm>(
-        &self,
-        io: &mut impl RafIo,
-        key: &A::Key,
-        writes: &[u8],
-    ) -> Result<bool> {
-        let (Some(block), Some(header)) = (&self.block, &self.header) else {
-            return Ok(false);
-        };
-        let layout = Layout::<A>::of(key, header);
-        let mut page = Wiped(zeros(layout.page_bytes())?);
-        let old = journaled_writes(writes).next();
-        if old.is_none_or(|old| old.bytes != block) {
-            return Ok(false);
-        }
-        for write in journaled_writes(writes).filter(|write| write.place != 0) {
-            let Some(number) = layout.page_at(write.place) else {
-                return Ok(false);
-            };
-            if number >= layout.page_count(header.contents_len) {
-                continue;
-            }
-            if layout.page_place(number + 1) > io.get_size()? {
-                return Ok(false);
-            }
-            io.read_at(&mut page.0, write.place)?;
-            if page.0 == write.bytes || !layout.open(number, &mut page.0) {
-                return Ok(false);
-            }
-        }
-        Ok(true)
-    }
 }
 
 /// Completes a commit that a crash or an error interrupted, or leaves out all of it. Returns the header of the file.
@@ -130,21 +94,19 @@ pub fn recover<A: Algorithm>(
         Err(Refusal::WRONG_JOURNAL) => return Err(Error::Journal),
         Err(_) => return Err(Error::Header),
     };
-    // If no power was lost, what can be read may not be synced yet.
-    io.sync()?;
-    if !writes.is_empty() {
-        let mut buffer = buffer()?;
-        if start.is_before::<A>(io, key, writes)? {
-            // After a sync that failed, Linux returns the bytes of the journal, will not write them to the disk, and reports no
-            // error to the next sync. The beginning was synced before the rest was written. If a write of the commit was begun,
-            // so was all of the journal. Then it must not be written: a crash might tear it.
-            journal.write_at(&content[BEGINNING_BYTES..], BEGINNING_BYTES as u64)?;
-        }
-        journal.sync()?;
-        write_and_sync(io, journaled_writes(writes), &mut buffer)?;
-    }
-    // Also if it is empty: after a sync that failed the disk may have its old bytes.
-    empty(journal)?;
+    let mut again = with_room(journaled_writes(writes).count())?;
+    again.extend(journaled_writes(writes));
+    let mut state = State::ENDED;
+    let mut work = Work {
+        io,
+        journal,
+        writes: &again,
+        state: &mut state,
+        bytes: &content,
+        neighbours: Neighbours::with_room(writes.len())?,
+        is_begun: false,
+    };
+    work.take_steps(hunkravy_recovery_step)?;
     if journal.get_size()? != 0 {
         // What has its name by now was not read.
         return Err(Error::Journal);

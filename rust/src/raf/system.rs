@@ -83,11 +83,6 @@ extern "C" fn count_fork() {
     FORKS.fetch_add(1, SeqCst);
 }
 
-/// Returns how many forks are between this process and the one that first opened a file.
-pub fn forks() -> u32 {
-    FORKS.load(SeqCst)
-}
-
 /// A process.
 #[derive(Clone, Copy, Debug, PartialEq, Eq)]
 pub struct Process {

@@ -3,11 +3,8 @@
 
 use crate::support::*;
 use hunkravy::raf::*;
-use std::fs::{self, Permissions};
-use std::os::unix::fs::{FileExt, MetadataExt, PermissionsExt, symlink};
-use std::os::unix::process::CommandExt;
-use std::path::Path;
-use std::process::Command;
+use std::fs;
+use std::os::unix::fs::{FileExt, symlink};
 use std::{env, io};
 
 type Done = fn(&Folder) -> io::Result<()>;
@@ -68,43 +65,6 @@ fn a_file_that_is_moved() {
     }
 }
 
-#[test]
-fn a_file_that_is_removed_while_it_is_open() {
-    let folder = Folder::with(b"before");
-    let mut file = folder.open().unwrap();
-    file.write(b"after!", 0).unwrap();
-    fs::remove_file(folder.file()).unwrap();
-    assert_eq!(outcome(file.commit()), "Moved");
-    // A new file of that name is another one.
-    folder.create().unwrap().write(b"new", 0).unwrap();
-    assert_eq!(outcome(file.commit()), "Moved");
-    drop(file);
-    assert_eq!(folder.names(), ["file"]);
-    assert_eq!(folder.text(), b"new");
-}
-
-/// Each name of a file would have a journal, so a file with two is refused, by each name and by each call.
-#[test]
-fn a_file_with_two_names() {
-    let folder = Folder::with(b"text");
-    fs::hard_link(folder.file(), folder.path("other")).unwrap();
-    let bytes = fs::read(folder.file()).unwrap();
-    for path in [folder.file(), folder.path("other")] {
-        let io = FileIo::create(&path).unwrap();
-        for refused in [
-            Raf::open_file(&path, &KEY),
-            over().create_file(&path, &KEY),
-            over().create(io, &KEY),
-        ] {
-            assert_eq!(outcome(refused), "Moved");
-        }
-    }
-    assert_eq!(folder.names(), ["file", "other"]);
-    assert_eq!(fs::read(folder.file()).unwrap(), bytes);
-    fs::remove_file(folder.path("other")).unwrap();
-    assert_eq!(folder.text(), b"text");
-}
-
 /// Whoever creates a file over one that is open elsewhere is told so, also while its journal is written, which is not
 /// to be taken for a stray one.
 #[test]
@@ -140,54 +100,6 @@ fn a_large_file_that_is_no_journal() {
     fs::write(folder.file(), [0; 600]).unwrap();
     journal.write_all_at(b"AGJ2", 0).unwrap();
     assert_eq!(outcome(folder.open()), "Header");
-}
-
-/// What may lie at the journal's path and is no journal, and the error of a commit.
-const PUTS: [(Done, &str); 7] = [
-    (|at| symlink("file", at.journal()), "InvalidData"),
-    (|at| symlink("other", at.journal()), "InvalidData"),
-    (|at| symlink("none", at.journal()), "InvalidData"),
-    (|at| fs::create_dir(at.journal()), "InvalidData"),
-    (
-        |at| fs::hard_link(at.path("other"), at.journal()),
-        "InvalidData",
-    ),
-    (|at| fs::write(at.journal(), [b'a'; 513]), "Journal"),
-    // Then the file has two names.
-    (|at| fs::hard_link(at.file(), at.journal()), "Moved"),
-];
-
-/// What lies at the journal's path and is no journal is left alone, and so is the file. No commit is made, until it is gone.
-#[test]
-fn what_is_no_journal() {
-    for (number, (put, error)) in PUTS.into_iter().enumerate() {
-        let folder = Folder::with(b"before");
-        fs::write(folder.path("other"), b"").unwrap();
-        put(&folder).unwrap();
-        let (bytes, names) = (fs::read(folder.file()).unwrap(), folder.names());
-        for refused in [folder.open(), folder.create_over()] {
-            let refused = outcome(refused);
-            let is_name = error == "Moved" && refused == "InvalidData";
-            assert!(refused == error || is_name, "{number} {refused}");
-        }
-        assert_eq!(fs::read(folder.file()).unwrap(), bytes, "{number}");
-        // It is put there once more while the file is open.
-        let (journal, aside) = (folder.journal(), folder.path("aside"));
-        fs::rename(&journal, &aside).unwrap();
-        let opened = folder.open();
-        fs::rename(&aside, &journal).unwrap();
-        assert_eq!(opened.is_err(), error == "Moved", "{number}");
-        if let Ok(mut file) = opened {
-            file.write(b"after!", 0).unwrap();
-            assert_eq!(outcome(file.commit()), error, "{number}");
-            assert_eq!(folder.names(), names, "{number}");
-            assert_eq!(fs::read(folder.file()).unwrap(), bytes, "{number}");
-            // The changes are still in memory.
-            fs::rename(&journal, &aside).unwrap();
-            file.commit().unwrap();
-            assert_eq!(text_of(&mut file), b"after!");
-        }
-    }
 }
 
 /// A link that leads to no file yet leads to the journal of the file that is made.
@@ -272,41 +184,11 @@ fn each_read_that_fails() {
             assert!(disks.calls() <= 4 && disks.bytes().0 == bytes.0, "{left}");
         }
     }
-    assert!(failed > 6, "{failed}");
+    assert!(failed > 3, "{failed}");
 }
 
 /// Names the path that a test is about which runs itself once more as another user.
 const PATH: &str = "HUNKRAVY_PATH";
-
-fn is_root() -> bool {
-    fs::metadata("/proc/self").unwrap().uid() == 0
-}
-
-fn allow(path: &Path, mode: u32) {
-    fs::set_permissions(path, Permissions::from_mode(mode)).unwrap();
-}
-
-/// Runs a test once more, in a folder of this mode, from a copy of this program that any user may run.
-fn run_as_another_user(folder: &Folder, mode: u32, test: &str, path: &Path) {
-    let program = folder.path("program");
-    if !program.exists() {
-        fs::copy(env::current_exe().unwrap(), &program).unwrap();
-    }
-    allow(&program, 0o755);
-    let mut command = Command::new(program);
-    command.args([test, "--exact"]).env(PATH, path);
-    if is_root() {
-        command.uid(65_534).gid(65_534);
-    }
-    allow(&folder.path(""), mode);
-    let output = command.output().unwrap();
-    allow(&folder.path(""), 0o755);
-    let printed = String::from_utf8_lossy(&output.stdout);
-    assert!(
-        output.status.success() && printed.contains("1 passed"),
-        "{mode:o} {printed}"
-    );
-}
 
 /// Another user cannot give a journal to the owner of the file beside it: that user could write it, and not the file. So it is
 /// removed. Only root can become another user.
@@ -327,7 +209,7 @@ fn a_journal_that_is_not_safe() {
     fs::write(folder.file(), "of root").unwrap();
     allow(&folder.file(), 0o600);
     let test = "attacks::a_journal_that_is_not_safe";
-    run_as_another_user(&folder, 0o777, test, &folder.journal());
+    run_as_another_user(&folder, 0o777, test, PATH, &folder.journal());
     assert_eq!(folder.names(), ["file", "program"]);
 }
 
@@ -354,7 +236,7 @@ fn a_folder_that_may_not_be_used() {
             allow(&folder.journal(), 0o666);
         }
         let test = "attacks::a_folder_that_may_not_be_used";
-        run_as_another_user(&folder, mode, test, &folder.file());
+        run_as_another_user(&folder, mode, test, PATH, &folder.file());
     }
     assert_eq!(fs::read(folder.file()).unwrap(), bytes);
     assert_eq!(fs::read(folder.journal()).unwrap(), b"");

@@ -2,7 +2,7 @@
 
 use crate::support::*;
 use hunkravy::raf::*;
-use std::cell::Cell;
+use std::cell::{Cell, RefCell};
 use std::error::Error as _;
 use std::io;
 use std::panic::{AssertUnwindSafe, catch_unwind};
@@ -145,6 +145,7 @@ fn calls(disks: &Disks) -> String {
     let shown = |(part, call): (Part, Call)| match call {
         Call::Write(place, _) => format!("{part:?} write {place}"),
         Call::Resize(size) => format!("{part:?} resize {size}"),
+        Call::Replace(bytes) => format!("{part:?} replace {}", bytes.len()),
         _ => format!("{part:?} sync"),
     };
     let shown: Vec<String> = disks.log().calls.drain(..).map(shown).collect();
@@ -161,14 +162,42 @@ fn the_calls_of_a_creation_and_an_opening() {
     assert_eq!(outcome(disks.open()), "Header");
     assert_eq!(disks.log().locks, 0);
     let mut file = disks.create();
-    let expected = "Journal resize 0, Journal sync, File resize 0, File write 0, File sync";
+    let expected = "Journal resize 0, Journal sync, File write 0, File sync";
     assert_eq!((calls(&disks).as_str(), disks.log().locks), (expected, 2));
     let commitment = file.commitment().unwrap();
     drop(file);
     let mut file = disks.open().unwrap();
-    let expected = "File sync, Journal resize 0, Journal sync";
+    let expected = "File sync, Journal sync, Journal resize 0, Journal sync";
     assert_eq!((calls(&disks).as_str(), disks.log().locks), (expected, 4));
     file.verify(&commitment).unwrap();
+}
+
+/// An opening that completes a commit replaces the journal, makes the writes again, and empties it. Before it reads anything the
+/// system forgets what it keeps of both in memory.
+#[test]
+fn the_calls_of_a_recovery() {
+    let disks = cut_short(&Disks::with(b"").bytes(), &[1; 600], 0, 1 + JOURNAL_CALLS);
+    disks.log().calls.clear();
+    let seen = RefCell::new(Vec::new());
+    let sees = |part| {
+        let seen = &seen;
+        move |at| {
+            seen.borrow_mut().push((part, at));
+            Ok(())
+        }
+    };
+    let journal = Before(disks.journal.clone(), sees(Part::Journal));
+    let length = disks.bytes().1.len();
+    let builder = disks.builder().journal(journal);
+    let opened = builder.open(Before(disks.file.clone(), sees(Part::File)), &KEY);
+    assert_eq!(text_of(&mut opened.unwrap()), [1; 600]);
+    let expected = format!(
+        "File sync, Journal replace {length}, File write 0, File write 4096, File write 0, File sync, \
+         Journal resize 0, Journal sync"
+    );
+    assert_eq!(calls(&disks), expected);
+    let first = [At::Lock, At::Forget].map(|at| [(Part::File, at), (Part::Journal, at)]);
+    assert_eq!(seen.borrow()[..4], first.concat());
 }
 
 /// A file whose lock, or whose journal's, is refused is not changed or synced, also if a commit is to be completed.
@@ -357,7 +386,7 @@ fn a_file_that_was_truncated_while_open() {
     file.write(b"text", 0).unwrap();
     disks.file.bytes.borrow_mut().truncate(511);
     let count = disks.calls();
-    assert_eq!(outcome(file.commit()), "UnexpectedEof");
+    assert_eq!(outcome(file.commit()), "Header");
     assert_eq!((disks.calls(), file.size()), (count, 4));
     file.discard();
 }

@@ -72,6 +72,8 @@ impl World {
         put(&mut text, place, &data);
         self.plan();
         let written = file.write(&data, place).and_then(|_| file.commit());
+        // If nothing was written to the file, it can be tried again.
+        let written = written.or_else(|_| file.commit());
         if written.is_ok() {
             self.allowed.clear();
         }

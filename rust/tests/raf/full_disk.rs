@@ -49,6 +49,23 @@ fn an_append_without_room() {
     assert!(seen[0] > 100 && seen[1] > 50, "{seen:?}");
 }
 
+/// A whole journal is replaced before it is applied, so the file does not open until there is room for a second one. Until then
+/// nothing is changed.
+#[test]
+fn a_whole_journal_without_room() {
+    let begun = Disks::with(&[1; 1000]).bytes();
+    let disks = cut_short(&begun, &[2; 300], 0, JOURNAL_CALLS);
+    let left = disks.bytes();
+    disks.log().is_full = true;
+    for _ in 0..2 {
+        assert_eq!(outcome(disks.open()), "StorageFull");
+        assert_eq!(disks.bytes(), left);
+    }
+    disks.log().is_full = false;
+    let expected = [[2; 300].as_slice(), &[1; 700]].concat();
+    assert_eq!(text_of(&mut disks.open().unwrap()), expected);
+}
+
 /// The calls that the system makes room with: a file of the system has room on its disk for what is reserved.
 #[test]
 fn room_in_a_file() {

@@ -11,6 +11,7 @@ mod formats;
 mod full_disk;
 mod model;
 mod nested;
+mod owners;
 mod paths;
 #[path = "../sealed/random.rs"]
 mod random;

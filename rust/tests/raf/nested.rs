@@ -1,10 +1,157 @@
-//! Batches that fail, batches inside batches, and files that a batch puts elsewhere.
+//! Batches, and batches inside batches.
 
 use crate::support::*;
-use hunkravy::raf::{Error, Result};
-use std::io::Write;
-use std::mem::{replace, swap};
+use hunkravy::raf::{Aegis256, Batch, Error, Result};
+use std::io::{ErrorKind, Write};
 use std::panic::{AssertUnwindSafe, catch_unwind};
+use std::str::Lines;
+
+type FileBatch<'f> = Batch<'f, Aegis256, Disk, Random, Disk>;
+
+/// What batches mean in each language.
+const SCENES: &str = include_str!("../../../testkit/batches.txt");
+
+/// The scenes that do not compile in Rust: they commit, discard or close in a batch, or end one that is not the innermost, or
+/// one that has ended.
+const NOT_IN_RUST: [&str; 6] = [
+    "committing in a batch changes nothing",
+    "closing in a batch commits nothing",
+    "discarding ends each batch",
+    "undoing an outer batch ends those within it",
+    "ending an outer batch before one within it undoes both",
+    "a batch ends once",
+];
+
+fn bytes_of(digits: &str) -> Vec<u8> {
+    let places = (0..digits.trim_start_matches('-').len()).step_by(2);
+    let byte = |at| u8::from_str_radix(&digits[at..at + 2], 16).unwrap();
+    places.map(byte).collect()
+}
+
+fn result_of<T>(result: Result<T>) -> &'static str {
+    match result {
+        Ok(_) => "ok",
+        Err(Error::TooLong) => "too-long",
+        Err(Error::Io(error)) if error.kind() == ErrorKind::StorageFull => "no-room",
+        Err(error) => panic!("{error:?}"),
+    }
+}
+
+/// A file, in a batch or not.
+trait Contents {
+    fn change(&mut self, words: &[&str]) -> Result<()>;
+    fn contents(&mut self) -> Vec<u8>;
+    fn batch(&mut self, run: &mut dyn FnMut(&mut FileBatch<'_>) -> Result<()>) -> Result<()>;
+}
+
+macro_rules! contents {
+    ($type:ty) => {
+        impl Contents for $type {
+            fn change(&mut self, words: &[&str]) -> Result<()> {
+                let number = words[1].parse().unwrap();
+                match words[0] {
+                    "write" => self.write(&bytes_of(words[2]), number).map(drop),
+                    _ => self.truncate(number),
+                }
+            }
+
+            fn contents(&mut self) -> Vec<u8> {
+                let mut found = vec![0; self.size() as usize];
+                self.read(&mut found, 0).unwrap();
+                found
+            }
+
+            fn batch(
+                &mut self,
+                run: &mut dyn FnMut(&mut FileBatch<'_>) -> Result<()>,
+            ) -> Result<()> {
+                self.batch(run)
+            }
+        }
+    };
+}
+contents!(File);
+contents!(FileBatch<'_>);
+
+/// Makes the calls of a scene up to the end of a batch. Returns the words of the line that follows the last call that was made.
+fn run_calls<'t>(file: &mut dyn Contents, lines: &mut Lines<'t>, disks: &Disks) -> Vec<&'t str> {
+    while let Some(line) = lines.next() {
+        let words: Vec<&str> = line.split(' ').collect();
+        match words[0] {
+            "write" | "truncate" => {
+                let changed = file.change(&words);
+                assert_eq!(result_of(changed), words[words.len() - 1], "{line}");
+            }
+            "contents" => assert_eq!(file.contents(), bytes_of(words[1]), "{line}"),
+            "stored" => assert_eq!(disks.text(), bytes_of(words[1]), "{line}"),
+            "room" | "no-room" => disks.log().is_full = words[0] == "no-room",
+            "begin" => run_batch(file, lines, disks),
+            _ => return words,
+        }
+    }
+    Vec::new()
+}
+
+/// Makes the calls of a scene in a batch. A scene that ends before the batch is a kill.
+fn run_batch(file: &mut dyn Contents, lines: &mut Lines<'_>, disks: &Disks) {
+    let mut end = Vec::new();
+    let ended = file.batch(&mut |batch| {
+        end = run_calls(batch, lines, disks);
+        let is_end = end.first() == Some(&"end");
+        is_end.then_some(()).ok_or(Error::Commitment)
+    });
+    match end[..] {
+        ["end", expected] => assert_eq!(result_of(ended), expected, "{end:?}"),
+        ["undo", "ok"] => assert!(matches!(ended, Err(Error::Commitment))),
+        _ => panic!("{end:?} in a batch"),
+    }
+}
+
+fn run_scene(text: &str) {
+    let disks = Disks::new();
+    let mut file = Some(disks.create());
+    let mut lines = text.lines();
+    loop {
+        let words = match &mut file {
+            Some(open) => run_calls(open, &mut lines, &disks),
+            // It was closed: only what is stored is left to compare.
+            None => run_calls(&mut disks.open().unwrap(), &mut lines, &disks),
+        };
+        let result = match words[..] {
+            [] => break,
+            ["commit", _] => file.as_mut().unwrap().commit(),
+            ["close", _] => file.take().unwrap().close(),
+            ["discard", _] => {
+                file.as_mut().unwrap().discard();
+                Ok(())
+            }
+            _ => panic!("{words:?} outside a batch"),
+        };
+        assert_eq!(result_of(result), words[1], "{words:?}");
+    }
+    std::mem::forget(file);
+}
+
+/// Each scene of the table gives what it says, except those that do not compile.
+#[test]
+fn scenes_of_batches() {
+    let lines = SCENES.lines().map(str::trim_end);
+    let lines = lines.filter(|line| !line.is_empty() && !line.starts_with('#'));
+    let text = lines.collect::<Vec<_>>().join("\n");
+    let (mut run, mut left_out) = (0, Vec::new());
+    for scene in text.split('[').skip(1) {
+        let (name, calls) = scene.split_once("]\n").unwrap();
+        if NOT_IN_RUST.contains(&name) {
+            left_out.push(name);
+            continue;
+        }
+        println!("{name}");
+        run_scene(calls);
+        run += 1;
+    }
+    assert!(run > 15, "{run}");
+    assert_eq!(left_out, NOT_IN_RUST);
+}
 
 /// A file whose contents are this text, with a limit on changes of 600 bytes.
 fn with_text(text: &[u8]) -> (File, Disks) {
@@ -13,69 +160,20 @@ fn with_text(text: &[u8]) -> (File, Disks) {
     (builder.open(disks.file.clone(), &KEY).unwrap(), disks)
 }
 
-/// A batch that panics after a change.
-fn panics(file: &mut File, change: fn(&mut File) -> Result<()>) {
-    let batch = AssertUnwindSafe(|| {
-        file.batch(|file| -> Result<()> {
-            change(file)?;
-            panic!("in the middle of a batch");
-        })
-    });
-    assert!(catch_unwind(batch).is_err());
-}
-
-/// A batch is committed by itself, whatever the limit on changes in memory.
+/// No write and no flush in a batch commits, whatever the limit on changes in memory. After it they do.
 #[test]
-fn a_batch() {
-    let (mut file, disks) = with_text(b"");
-    let written = file.batch(|file| {
-        file.write(&[1; 1000], 0)?;
-        assert_eq!(disks.text(), b"");
-        file.write(b"end", 1000)
-    });
-    assert_eq!(written.unwrap(), 3);
-    std::mem::forget(file);
-    assert_eq!(disks.text(), [&[1; 1000][..], b"end"].concat());
-}
-
-/// A batch that fails, panics or is not committed leaves the contents as they were, and commits what was changed before it.
-#[test]
-fn a_batch_that_fails() {
-    let disks = Disks::new();
-    let mut file = disks.create();
-    file.write(b"before", 0).unwrap();
-    let failed: Result<()> = file.batch(|file| {
-        file.write(b"lost", 0)?;
-        Err(Error::TooLong)
-    });
-    assert_eq!(outcome(failed), "TooLong");
-    panics(&mut file, |file| file.truncate(0));
-    let failed = file.batch(|file| {
-        disks.log().reads_left = 0;
-        file.write(&[1; 256], 0)
-    });
-    assert_eq!(outcome(failed), "Other");
-    disks.log().reads_left = usize::MAX;
-    assert_eq!(text_of(&mut file), b"before");
-    drop(file);
-    assert_eq!(disks.text(), b"before");
-}
-
-/// An inner batch commits nothing: if the outer one fails, the changes of both are discarded.
-#[test]
-fn an_outer_batch_that_fails() {
+fn the_limit_in_a_batch() {
     let (mut file, disks) = with_text(b"0000");
-    let made: Result<()> = file.batch(|file| {
+    let made = file.batch(|file| {
         file.write(b"A", 0)?;
         file.batch(|file| file.write(&[1; 2000], 1))?;
         file.cursor().write_all(b"C")?;
         file.cursor().flush()?;
         assert_eq!((disks.text(), file.size()), (b"0000".to_vec(), 2001));
-        Err(Error::Commitment)
+        file.truncate(3)
     });
-    assert_eq!(outcome(made), "Commitment");
-    assert_eq!(text_of(&mut file), b"0000");
-    // After it the limit holds again, and a flush commits.
+    made.unwrap();
+    assert_eq!(disks.text(), b"C\x01\x01");
     file.write(&[2; 2000], 0).unwrap();
     assert_eq!(disks.text(), [2; 2000]);
     file.truncate(1).unwrap();
@@ -83,115 +181,92 @@ fn an_outer_batch_that_fails() {
     assert_eq!(disks.text(), [2]);
 }
 
-/// An inner batch that fails or panics takes back its own changes, and the outer one commits the others.
+/// Pages that an inner batch truncates are not written.
 #[test]
-fn an_inner_batch_that_fails() {
+fn pages_that_are_truncated_in_a_batch() {
     let (mut file, disks) = with_text(b"0000");
+    let length = disks.bytes().0.len();
+    let made = file.batch(|file| {
+        file.write(&[1; 2000], 0)?;
+        file.batch(|file| file.truncate(3))
+    });
+    made.unwrap();
+    assert_eq!((disks.text(), disks.bytes().0.len()), (vec![1; 3], length));
+}
+
+/// A batch that panics is undone, also one inside another, which goes on.
+#[test]
+fn batches_that_panic() {
+    let (mut file, disks) = with_text(b"0000");
+    let panics = AssertUnwindSafe(|| {
+        file.batch(|file| -> Result<()> {
+            file.truncate(0)?;
+            panic!("in the middle of a batch");
+        })
+    });
+    assert!(catch_unwind(panics).is_err());
+    assert_eq!(text_of(&mut file), b"0000");
     let made = file.batch(|file| {
         file.write(b"A", 0)?;
-        let failed: Result<()> = file.batch(|file| {
-            file.write(&[1; 900], 2)?;
-            file.truncate(0)?;
-            Err(Error::Commitment)
+        let panics = AssertUnwindSafe(|| {
+            file.batch(|file| -> Result<()> {
+                file.write(b"BB", 2)?;
+                panic!("in the middle of an inner batch");
+            })
         });
-        assert_eq!(outcome(failed), "Commitment");
-        assert_eq!(text_of(file), b"A000");
-        panics(file, |file| file.write(b"BB", 2).map(drop));
-        file.batch(|file| file.write(b"C", 3))
+        assert!(catch_unwind(panics).is_err());
+        file.write(b"C", 1)
     });
-    assert_eq!(outcome(made), "Ok");
-    assert_eq!(text_of(&mut file), b"A00C");
-    drop(file);
-    assert_eq!(disks.text(), b"A00C");
+    made.unwrap();
+    assert_eq!(disks.text(), b"AC00");
+    // Its file may be dropped by the same panic.
+    let dropped = AssertUnwindSafe(|| {
+        let mut file = disks.open().unwrap();
+        file.write(b"lost", 0).unwrap();
+        file.batch(|_| -> Result<()> { panic!("in the middle of a batch") })
+    });
+    assert!(catch_unwind(dropped).is_err());
+    assert_eq!(disks.text(), b"AC00");
 }
 
-/// After a commit in an inner batch, that batch can take back what was changed since then.
+/// Undoing a batch takes back pages that an outer one has changed, truncated or made, and all others.
 #[test]
-fn a_commit_in_an_inner_batch() {
-    let (mut file, disks) = with_text(b"0000");
-    let made: Result<()> = file.batch(|file| {
-        file.write(b"A", 0)?;
-        let failed: Result<()> = file.batch(|file| {
-            file.write(b"B", 1)?;
-            file.commit()?;
-            file.write(b"C", 2)?;
-            Err(Error::Commitment)
-        });
-        assert_eq!(outcome(failed), "Commitment");
-        assert_eq!(text_of(file), b"AB00");
-        file.write(b"D", 3)?;
-        Err(Error::Commitment)
-    });
-    assert_eq!(outcome(made), "Commitment");
-    assert_eq!([text_of(&mut file), disks.text()], [b"AB00"; 2]);
-}
-
-/// A batch neither commits nor discards if another file is in the place of its own, whose changes stay with it.
-#[test]
-fn files_that_are_swapped_in_a_batch() {
-    for end in [Ok(()), Err(Error::Commitment)] {
-        let (mut one, its_disks) = with_text(b"1111");
-        let (mut other, other_disks) = with_text(b"2222");
-        other.write(b"o", 0).unwrap();
-        let is_ok = end.is_ok();
-        let made = one.batch(|file| {
-            file.write(b"i", 0)?;
-            swap(file, &mut other);
-            end
-        });
-        let expected = if is_ok { "Moved" } else { "Commitment" };
-        assert_eq!(outcome(made), expected);
-        // They are at each other's place.
-        assert_eq!([text_of(&mut one), text_of(&mut other)], [b"o222", b"i111"]);
-        assert_eq!([its_disks.text(), other_disks.text()], [b"1111", b"2222"]);
-        if is_ok {
-            drop((one, other));
-            // A part of a batch is not committed.
-            assert_eq!([its_disks.text(), other_disks.text()], [b"1111", b"o222"]);
-        } else {
-            // The limit and a flush are those outside a batch.
-            other.cursor().flush().unwrap();
-            assert_eq!(its_disks.text(), b"i111");
-            other.write(&[3; 1000], 0).unwrap();
-            assert_eq!(its_disks.text(), [3; 1000]);
-        }
+fn random_batches() {
+    let mut random = Random(11);
+    for _ in 0..300 {
+        let disks = Disks::with(&[9; 1000]);
+        let mut file = disks.open().unwrap();
+        let mut text = vec![9; 1000];
+        random_changes(&mut file, &mut text, &mut random, 0);
+        file.commit().unwrap();
+        assert_eq!(disks.text(), text);
     }
 }
 
-/// Files that are swapped back before the end are in their batches.
-#[test]
-fn files_that_are_swapped_back() {
-    let (mut one, its_disks) = with_text(b"1111");
-    let (mut other, other_disks) = with_text(b"2222");
-    let made: Result<()> = one.batch(|one| {
-        one.write(b"i", 0)?;
-        let inner: Result<()> = other.batch(|other| {
-            other.write(b"o", 0)?;
-            swap(one, other);
-            swap(one, other);
-            Err(Error::Commitment)
-        });
-        assert_eq!(outcome(inner), "Commitment");
-        Ok(())
-    });
-    assert_eq!(outcome(made), "Ok");
-    assert_eq!([its_disks.text(), other_disks.text()], [b"i111", b"2222"]);
-    assert_eq!(text_of(&mut other), b"2222");
-}
-
-/// A file that a batch replaces and drops loses that batch alone.
-#[test]
-fn a_file_that_is_replaced_in_a_batch() {
-    let (mut file, disks) = with_text(b"1111");
-    let (next, next_disks) = with_text(b"2222");
-    file.write(b"before", 0).unwrap();
-    let made = file.batch(|file| {
-        file.write(b"i", 0)?;
-        drop(replace(file, next));
-        file.write(b"n", 0)
-    });
-    assert_eq!(outcome(made), "Moved");
-    assert_eq!(disks.text(), b"before");
-    drop(file);
-    assert_eq!(next_disks.text(), b"n222");
+/// Makes changes and batches in a file, and the same in a text.
+fn random_changes(file: &mut dyn Contents, text: &mut Vec<u8>, random: &mut Random, depth: u32) {
+    for _ in 0..5 {
+        let at = random.below(1500);
+        match random.below(if depth < 4 { 4 } else { 2 }) {
+            0 => {
+                file.change(&["truncate", &at.to_string()]).unwrap();
+                text.resize(at as usize, 0);
+            }
+            1 => {
+                file.change(&["write", &at.to_string(), "a1a2a3"]).unwrap();
+                put(text, at, &[0xa1, 0xa2, 0xa3]);
+            }
+            kind => {
+                let mut inner = text.clone();
+                let ended = file.batch(&mut |batch| {
+                    random_changes(batch, &mut inner, random, depth + 1);
+                    (kind == 2).then_some(()).ok_or(Error::Commitment)
+                });
+                if ended.is_ok() {
+                    *text = inner;
+                }
+            }
+        }
+        assert_eq!(file.contents(), *text);
+    }
 }

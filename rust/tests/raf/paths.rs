@@ -45,27 +45,6 @@ fn journals_beside_a_file() {
     assert_eq!(folder.names(), ["file.journal"]);
 }
 
-#[test]
-fn a_second_writer_is_refused() {
-    let folder = Folder::with(b"text");
-    let file = folder.open().unwrap();
-    let bytes = fs::read(folder.file()).unwrap();
-    let io = || FileIo::open(folder.file()).unwrap();
-    let second = RafBuilder::<Aegis256>::new().open(io(), &KEY);
-    for refused in [folder.open(), folder.create_over(), second] {
-        assert_eq!(outcome(refused), "Locked");
-    }
-    assert_eq!(fs::read(folder.file()).unwrap(), bytes);
-    // It may be probed.
-    let found = probe(&mut io()).unwrap();
-    let expected = (4032, AlgorithmId::Aegis256);
-    assert_eq!((found.chunk_size, found.algorithm), expected);
-    drop(file);
-    for _ in 0..2 {
-        assert_eq!(folder.text(), b"text");
-    }
-}
-
 /// A lock ends with its file, even if a copy of the descriptor is still open, as one is in a process that is being started. Until
 /// then the copy shares it, and what has not locked the file does not unlock it.
 #[test]
@@ -79,16 +58,6 @@ fn locks_of_descriptors() {
     assert_eq!(outcome(folder.open()), "Locked");
     drop(over_copy);
     assert_eq!(outcome(folder.open()), "Ok");
-}
-
-/// A link to a file and the file itself have one journal.
-#[test]
-fn links_to_a_file() {
-    let folder = Folder::with(b"");
-    symlink(folder.file(), folder.path("link")).unwrap();
-    fs::write(folder.journal(), b"torn").unwrap();
-    drop(Raf::<Aegis256>::open_file(folder.path("link"), &KEY).unwrap());
-    assert_eq!(folder.names(), ["file", "link"]);
 }
 
 /// However a file is made, it has a journal: here one that cannot be written.

@@ -3,10 +3,14 @@
 pub use crate::random::Random;
 use hunkravy::raf::*;
 use std::cell::{RefCell, RefMut};
-use std::path::PathBuf;
+use std::fs::{self, Permissions};
+use std::os::unix::fs::{MetadataExt, PermissionsExt};
+use std::os::unix::process::CommandExt;
+use std::path::{Path, PathBuf};
+use std::process::Command;
 use std::rc::Rc;
 use std::sync::atomic::{AtomicUsize, Ordering::Relaxed};
-use std::{fs, io};
+use std::{env, io};
 
 pub const KEY: [u8; 32] = [7; 32];
 
@@ -94,6 +98,8 @@ pub enum Call {
     Resize(u64),
     Sync,
     FailedSync,
+    Replace(Vec<u8>),
+    FailedReplace(Vec<u8>),
 }
 
 /// The file, or its journal.
@@ -113,8 +119,9 @@ pub struct Log {
     pub syncs_left: usize,
     pub locks: usize,
     pub seed: u64,
-    /// Whether no calls are kept.
+    /// Whether no calls are kept, and whether the disks have no more room.
     pub is_off: bool,
+    pub is_full: bool,
 }
 
 /// A disk in memory, whose bytes outlive the file over it.
@@ -137,6 +144,23 @@ impl Disk {
         log.left = log.left.checked_sub(1).ok_or(io::ErrorKind::Other)?;
         Ok(())
     }
+
+    /// Returns whether the next sync succeeds.
+    fn syncs(&self) -> bool {
+        let mut log = self.log.borrow_mut();
+        let left = log.syncs_left.checked_sub(1);
+        log.syncs_left = left.unwrap_or(usize::MAX);
+        left.is_some()
+    }
+
+    /// Returns an error if it cannot grow to so many bytes.
+    fn check_room(&self, end: u64) -> io::Result<()> {
+        let is_full = self.log.borrow().is_full && end > self.bytes.borrow().len() as u64;
+        if is_full {
+            return Err(io::ErrorKind::StorageFull.into());
+        }
+        Ok(())
+    }
 }
 
 impl RafIo for Disk {
@@ -155,6 +179,7 @@ impl RafIo for Disk {
 
     /// If it fails, half of the bytes are written.
     fn write_at(&mut self, data: &[u8], offset: u64) -> io::Result<()> {
+        self.check_room(offset + data.len() as u64)?;
         let done = self.log(|| Call::Write(offset, data.to_vec()));
         let count = data.len() / if done.is_ok() { 1 } else { 2 };
         put(&mut self.bytes.borrow_mut(), offset, &data[..count]);
@@ -166,16 +191,36 @@ impl RafIo for Disk {
     }
 
     fn set_size(&mut self, size: u64) -> io::Result<()> {
+        self.check_room(size)?;
         self.log(|| Call::Resize(size))?;
         self.bytes.borrow_mut().resize(size as usize, 0);
         Ok(())
     }
 
     fn sync(&mut self) -> io::Result<()> {
-        let left = self.log.borrow().syncs_left.checked_sub(1);
-        self.log.borrow_mut().syncs_left = left.unwrap_or(usize::MAX);
-        self.log(|| left.map_or(Call::FailedSync, |_| Call::Sync))?;
-        left.map(drop).ok_or(io::Error::from_raw_os_error(5))
+        let is_done = self.syncs();
+        self.log(|| {
+            if is_done {
+                Call::Sync
+            } else {
+                Call::FailedSync
+            }
+        })?;
+        is_done.then_some(()).ok_or(io::Error::from_raw_os_error(5))
+    }
+
+    /// If it fails, a crash may leave the new bytes or the old ones. Those that can be read are equal.
+    fn replace(&mut self, bytes: &[u8]) -> io::Result<()> {
+        self.check_room(u64::MAX)?;
+        if !self.syncs() || self.log.borrow().left == 0 {
+            self.log(|| Call::FailedReplace(bytes.to_vec()))?;
+            return Err(io::Error::from_raw_os_error(5));
+        }
+        self.log(|| Call::Replace(bytes.to_vec()))?;
+        let mut own = self.bytes.borrow_mut();
+        own.clear();
+        own.extend(bytes);
+        Ok(())
     }
 
     fn lock(&mut self) -> Result<()> {
@@ -291,13 +336,15 @@ pub fn cut_short(bytes: &Bytes, text: &[u8], offset: u64, calls: usize) -> Disks
 }
 
 /// What a storage is asked for, with the end of what is written or reserved, or the new size.
-#[derive(Clone, Copy, PartialEq)]
+#[derive(Clone, Copy, Debug, PartialEq)]
 pub enum At {
     Read,
     Write(u64),
     Reserve(u64),
     Resize(u64),
+    Replace(u64),
     Sync,
+    Forget,
     Lock,
 }
 
@@ -335,6 +382,16 @@ impl<I: RafIo, F: FnMut(At) -> Result<()>> RafIo for Before<I, F> {
         self.0.sync()
     }
 
+    fn replace(&mut self, bytes: &[u8]) -> io::Result<()> {
+        (self.1)(At::Replace(bytes.len() as u64))?;
+        self.0.replace(bytes)
+    }
+
+    fn forget(&mut self) -> io::Result<()> {
+        (self.1)(At::Forget)?;
+        self.0.forget()
+    }
+
     fn lock(&mut self) -> Result<()> {
         (self.1)(At::Lock)?;
         self.0.lock()
@@ -359,7 +416,8 @@ fn apply(bytes: &mut Vec<u8>, change: &Call) {
     match change {
         Call::Write(offset, data) => put(bytes, *offset, data),
         Call::Resize(size) => bytes.resize(*size as usize, 0),
-        Call::Sync | Call::FailedSync => (),
+        Call::Replace(data) => bytes.clone_from(data),
+        Call::Sync | Call::FailedSync | Call::FailedReplace(_) => (),
     }
 }
 
@@ -370,6 +428,11 @@ fn torn(mut bytes: Vec<u8>, calls: &[&Call], random: &mut Random) -> Vec<u8> {
         match call {
             Call::Sync => pending.drain(..).for_each(|call| apply(&mut bytes, call)),
             Call::FailedSync => lose(&mut bytes, pending.drain(..), random),
+            Call::FailedReplace(_) if random.below(2) == 0 => (),
+            Call::Replace(data) | Call::FailedReplace(data) => {
+                pending.clear();
+                bytes.clone_from(data);
+            }
             change => pending.push(*change),
         }
     }
@@ -516,4 +579,57 @@ impl Drop for Folder {
 /// A builder that creates files in place of others.
 pub fn over() -> RafBuilder<Aegis256> {
     RafBuilder::new().truncate(true)
+}
+
+// ---- Users, names and locks
+
+/// Which journals are trusted, and which names and locks accepted, in each language.
+pub const TABLE: &str = include_str!("../../../testkit/owners.txt");
+
+/// Returns the words of each row of this kind.
+pub fn rows(kind: &str) -> impl Iterator<Item = Vec<&'static str>> {
+    let words = TABLE.lines().map(|line| line.split_whitespace().collect());
+    words.filter(move |words: &Vec<_>| words.first() == Some(&kind))
+}
+
+/// Returns what a row says of a result.
+pub fn word_of<T>(result: Result<T>) -> &'static str {
+    match outcome(result).as_str() {
+        "Ok" => "ok",
+        "InvalidData" => "rejected",
+        "Moved" => "moved",
+        "Locked" => "locked",
+        "Journal" => "wrong-journal",
+        _ => "failed",
+    }
+}
+
+pub fn is_root() -> bool {
+    fs::metadata("/proc/self").unwrap().uid() == 0
+}
+
+pub fn allow(path: &Path, mode: u32) {
+    fs::set_permissions(path, Permissions::from_mode(mode)).unwrap();
+}
+
+/// Runs a test once more with this variable, in a folder of this mode, from a copy of this program that any user may run.
+pub fn run_as_another_user(folder: &Folder, mode: u32, test: &str, variable: &str, path: &Path) {
+    let program = folder.path("program");
+    if !program.exists() {
+        fs::copy(env::current_exe().unwrap(), &program).unwrap();
+    }
+    allow(&program, 0o755);
+    let mut command = Command::new(program);
+    command.args([test, "--exact"]).env(variable, path);
+    if is_root() {
+        command.uid(65_534).gid(65_534);
+    }
+    allow(&folder.path(""), mode);
+    let output = command.output().unwrap();
+    allow(&folder.path(""), 0o755);
+    let printed = String::from_utf8_lossy(&output.stdout);
+    assert!(
+        output.status.success() && printed.contains("1 passed"),
+        "{mode:o} {printed}"
+    );
 }
