@@ -1,0 +1,35 @@
+# A disk that loses power, and a corpus of files in each format: README.md.
+.PHONY: check-disk
+
+DISK = $(OUT)/disk
+DISK_SOURCES = $(wildcard testkit/disk/*.[ch])
+DISK_PROGRAMS = $(addprefix $(DISK)/programs/,table c rust python)
+DISK_SECONDS = 60
+
+# Random histories of random-access files in C, Rust and Python over the disk. All of them open what is left.
+check-disk: $(DISK)/libdisk.so $(DISK_PROGRAMS)
+	testkit/disk/run --seconds $(DISK_SECONDS) --keep $(DISK)/kept $(DISK)
+
+$(DISK)/libdisk.so: $(DISK_SOURCES)
+	mkdir -p $(@D)
+	$(CC) -std=c11 $(C_FLAGS) -O2 -fPIC -shared testkit/disk/disk.c testkit/disk/calls.c -o $@
+
+$(DISK)/programs/c: $(DISK_SOURCES) $(OUT)/both/libhunkravy.a
+	mkdir -p $(@D)
+	$(CC) -std=c11 $(C_FLAGS) -O2 testkit/disk/program.c $(OUT)/both/libhunkravy.a -o $@
+
+$(DISK)/programs/table: $(DISK_SOURCES) $(OUT)/both/libhunkravy.a
+	mkdir -p $(@D)
+	$(CC) -std=c11 $(C_FLAGS) -O2 -DTABLE testkit/disk/program.c testkit/disk/storage.c testkit/disk/disk.c \
+		$(OUT)/both/libhunkravy.a -o $@
+
+$(DISK)/programs/rust: testkit/disk/program.rs $(shell find rust/src -name '*.rs') $(OUT)/both/libhunkravy.a
+	mkdir -p $(@D)
+	rustc --edition 2024 -O --crate-name hunkravy --crate-type rlib \
+		$(foreach feature,std raf-core raf,--cfg 'feature="$(feature)"') rust/src/lib.rs -o $(DISK)/libhunkravy.rlib
+	rustc --edition 2024 -O --extern hunkravy=$(DISK)/libhunkravy.rlib -C link-arg=$(OUT)/both/libhunkravy.a $< -o $@
+
+$(DISK)/programs/python: testkit/disk/program.py python-package
+	mkdir -p $(@D)
+	printf '#!/bin/sh\nPYTHONPATH="%s" exec python3 -B "%s" "$$@"\n' "$(CURDIR)/$(OUT)/python" "$(CURDIR)/$<" > $@
+	chmod +x $@
