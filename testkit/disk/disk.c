@@ -259,7 +259,8 @@ static int is_over_failure(const struct node *node, const struct change *change)
     int count = 0;
     for (uint32_t i = 0; i < node->failure_count; i++) {
         const struct change *failure = &node->failures[i];
-        count += change->place < failure->place + failure->length && failure->place < change->place + change->length;
+        int is_over = change->place < failure->place + failure->length && failure->place < change->place + change->length;
+        count += !failure->is_size && is_over;
     }
     return count > 0;
 }

@@ -1,11 +1,12 @@
 //! `program PATH KEY`: makes the commands of standard input with a random-access file of AEGIS-256, and answers each with a
 //! line. README.md has the commands.
 
-use hunkravy::raf::{Aegis256, Error, Raf, RafBuilder, Result};
+use hunkravy::raf::{Aegis256, Batch, Error, Raf, RafBuilder, Result};
 use std::env::args;
 use std::io::{ErrorKind, Lines, StdinLock, stdin};
 
 type File = Raf<Aegis256>;
+type Input<'i> = Lines<StdinLock<'i>>;
 
 const PAGE_BYTES: u32 = 256;
 
@@ -22,52 +23,84 @@ fn answer(result: Result<String>) {
     }
 }
 
+/// The next command, and `drop` at the end.
+fn next(lines: &mut Input) -> String {
+    lines.next().map_or("drop".to_owned(), |line| line.unwrap())
+}
+
+/// A file or a batch.
+trait Changes {
+    fn write_at(&mut self, data: &[u8], place: u64) -> Result<usize>;
+    fn set_size(&mut self, size: u64) -> Result<()>;
+    fn make_batch(&mut self, lines: &mut Input) -> Result<()>;
+}
+
+macro_rules! changes {
+    ($type:ty) => {
+        impl Changes for $type {
+            fn write_at(&mut self, data: &[u8], place: u64) -> Result<usize> {
+                self.write(data, place)
+            }
+
+            fn set_size(&mut self, size: u64) -> Result<()> {
+                self.truncate(size)
+            }
+
+            fn make_batch(&mut self, lines: &mut Input) -> Result<()> {
+                self.batch(|batch| match make_changes(batch, lines).as_str() {
+                    "end" => Ok(()),
+                    _ => Err(Error::Io(ErrorKind::Interrupted.into())),
+                })
+            }
+        }
+    };
+}
+
+changes!(File);
+changes!(Batch<'_, Aegis256>);
+
+/// Makes changes and batches, and returns the command after them.
+fn make_changes(file: &mut impl Changes, lines: &mut Input) -> String {
+    loop {
+        let line = next(lines);
+        let mut words = line.split(' ').skip(1);
+        let number = words.next().map_or(0, |number| number.parse().unwrap());
+        let data = bytes_of(words.next().unwrap_or_default());
+        let made = match line.split(' ').next() {
+            Some("write") => file.write_at(&data, number).map(drop),
+            Some("truncate") => file.set_size(number),
+            Some("batch") => {
+                println!(" ok");
+                match file.make_batch(lines) {
+                    Err(Error::Io(error)) if error.kind() == ErrorKind::Interrupted => Ok(()),
+                    ended => ended,
+                }
+            }
+            _ => return line,
+        };
+        answer(made.map(|()| String::new()));
+    }
+}
+
 fn contents(file: &mut File) -> Result<String> {
     let mut text = vec![0; file.size() as usize];
     file.read(&mut text, 0)?;
     Ok(text.iter().map(|byte| format!("{byte:02x}")).collect())
 }
 
-/// What a batch that is undone returns.
-fn undone() -> Error {
-    Error::Io(ErrorKind::Interrupted.into())
-}
-
-/// Makes the commands in a file, until it is closed, or its batch ends.
-fn make(file: &mut File, lines: &mut Lines<StdinLock>) -> Result<()> {
-    while let Some(Ok(line)) = lines.next() {
-        let mut words = line.split(' ');
-        let command = words.next().unwrap_or_default();
-        let number = words.next().map_or(0, |number| number.parse().unwrap());
-        let data = bytes_of(words.next().unwrap_or_default());
-        match command {
-            "write" => answer(file.write(&data, number).map(|_| String::new())),
-            "truncate" => answer(file.truncate(number).map(|()| String::new())),
+/// Makes the commands in a file up to its end.
+fn make_all(mut file: File, lines: &mut Input) -> Result<String> {
+    println!(" ok");
+    loop {
+        match make_changes(&mut file, lines).as_str() {
             "commit" => answer(file.commit().map(|()| String::new())),
-            "contents" => answer(contents(file)),
-            "end" | "close" => return Ok(()),
-            "undo" | "drop" => return Err(undone()),
-            "batch" => {
-                println!(" ok");
-                let ended = file.batch(|file| make(file, lines));
-                let is_undone = matches!(&ended, Err(Error::Io(error)) if error.kind() == ErrorKind::Interrupted);
-                answer(if is_undone { Ok(()) } else { ended }.map(|()| String::new()));
-            }
-            _ => panic!("{line}"),
+            "contents" => answer(contents(&mut file)),
+            "close" => return file.commit().map(|()| String::new()),
+            _ => break,
         }
     }
-    Ok(())
-}
-
-/// Makes the commands in a file that was opened, and closes it.
-fn make_in(mut file: File, lines: &mut Lines<StdinLock>) -> Result<String> {
-    println!(" ok");
-    let closed = make(&mut file, lines);
-    if closed.is_err() {
-        file.discard();
-        return Ok(String::new());
-    }
-    file.commit().map(|()| String::new())
+    file.discard();
+    Ok(String::new())
 }
 
 fn main() {
@@ -76,16 +109,15 @@ fn main() {
     let mut lines = stdin().lines();
     while let Some(Ok(line)) = lines.next() {
         let builder = RafBuilder::<Aegis256>::new().chunk_size(PAGE_BYTES);
-        let opened = match line.as_str() {
+        let made = match line.as_str() {
             "create" => builder.create_file(&arguments[1], &key),
             "open" => builder.open_file(&arguments[1], &key),
-            "drop" => Err(undone()),
+            "drop" => {
+                println!(" ok");
+                continue;
+            }
             _ => Err(Error::Io(ErrorKind::NotFound.into())),
         };
-        match opened {
-            Ok(file) => answer(make_in(file, &mut lines)),
-            Err(_) if line == "drop" => println!(" ok"),
-            Err(error) => answer(Err(error)),
-        }
+        answer(made.and_then(|file| make_all(file, &mut lines)));
     }
 }
