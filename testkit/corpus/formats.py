@@ -190,8 +190,9 @@ def opened_pages(variant: str, key: bytes, file: bytes, journal: bytes) -> tuple
     for index in range(-(-length // pages.page_size)):
         page = after[pages.place(index) : pages.place(index + 1)]
         nonce, data = page[: pages.nonce_bytes], b"AGP1" + pages.start + le(index, 8)
-        is_whole = len(page) == pages.place(1) - pages.place(0)
-        text = decrypt(variant, key, nonce, data, page[pages.nonce_bytes :]) if is_whole else None
+        if len(page) < pages.place(1) - pages.place(0):
+            return f"missing {index}", None
+        text = decrypt(variant, key, nonce, data, page[pages.nonce_bytes :])
         if text is None:
             return f"damaged {index}", None
         contents += text

@@ -227,7 +227,8 @@ int disk_write(struct disk *disk, struct node *node, size_t place, const uint8_t
 }
 
 /* Fills a piece of a write with what may be there in its place, unless it is what was there. */
-static void store_piece(struct disk *disk, struct node *node, size_t place, const uint8_t *bytes, size_t length, int kind)
+static void store_piece(
+    struct disk *disk, struct node *node, size_t place, const uint8_t *bytes, size_t length, int kind)
 {
     uint8_t other[MOST_BYTES];
     if (kind == 0) {
@@ -259,7 +260,8 @@ static int is_over_failure(const struct node *node, const struct change *change)
     int count = 0;
     for (uint32_t i = 0; i < node->failure_count; i++) {
         const struct change *failure = &node->failures[i];
-        int is_over = change->place < failure->place + failure->length && failure->place < change->place + change->length;
+        int is_over =
+            change->place < failure->place + failure->length && failure->place < change->place + change->length;
         count += !failure->is_size && is_over;
     }
     return count > 0;

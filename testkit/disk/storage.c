@@ -124,7 +124,8 @@ static int storage_reserve(void *context, uint64_t from, uint64_t end)
             return code;
         }
     }
-    return result(node_of(names, HUNKRAVY_PART_JOURNAL) != NULL || make(names, names->part[HUNKRAVY_PART_JOURNAL]) != NULL);
+    return result(
+        node_of(names, HUNKRAVY_PART_JOURNAL) != NULL || make(names, names->part[HUNKRAVY_PART_JOURNAL]) != NULL);
 }
 
 static int storage_random(void *context, uint8_t *bytes, size_t length)
