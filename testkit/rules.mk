@@ -1,5 +1,5 @@
 # A disk that loses power, and a corpus of files in each format: README.md.
-.PHONY: check-disk
+.PHONY: check-disk check-corpus
 
 DISK = $(OUT)/disk
 DISK_SOURCES = $(wildcard testkit/disk/*.[ch])
@@ -33,3 +33,10 @@ $(DISK)/programs/python: testkit/disk/program.py python-package
 	mkdir -p $(@D)
 	printf '#!/bin/sh\nPYTHONPATH="%s" exec python3 -B "%s" "$$@"\n' "$(CURDIR)/$(OUT)/python" "$(CURDIR)/$<" > $@
 	chmod +x $@
+
+# The corpus is made again, byte for byte, by ciphers that agree with the published lines.
+check-corpus: | $(OUT)
+	python3 -B testkit/corpus/make.py --check
+	rm -rf $(OUT)/corpus && mkdir $(OUT)/corpus
+	python3 -B testkit/corpus/make.py $(OUT)/corpus
+	for name in records sealed random-access; do cmp testkit/corpus/$$name.txt $(OUT)/corpus/$$name.txt || exit 1; done

@@ -1,4 +1,4 @@
-"""AEGIS from its definitions, slowly: one lane after the other, a block as a number of 128 bits, its first byte the lowest.
+"""AEGIS from its definitions, slowly: one lane after the other. A block is a number, whose lowest byte is the first.
 
 It shares nothing with the code of the project. `make.py` compares it with published vectors.
 """

@@ -1,4 +1,4 @@
-"""The three formats from their pages, docs/SEALED-FILES.md and docs/RANDOM-ACCESS.md: what is written, and what opening returns.
+"""The formats from their pages, docs/SEALED-FILES.md and docs/RANDOM-ACCESS.md: what is written, and what opens.
 
 A result is "ok" and the contents, or the name of an error.
 """

@@ -15,7 +15,8 @@ from typing import Any, Iterator
 
 import aegis
 from aegis import VARIANTS, le
-from formats import BLOCK, FIRST_PAGE, Pages, TAG, opened_file, opened_pages, opened_records, records, sealed_file, written
+from formats import BLOCK, FIRST_PAGE, Pages, TAG, opened_file, opened_pages, opened_records, records, sealed_file
+from formats import written
 
 LINES = pathlib.Path(__file__).parents[2] / "crates/test_agreement/data"
 Case = dict[str, Any]
@@ -54,8 +55,9 @@ def text_of(case: Case, found: str | list[bytes]) -> str:
 KEY, PREFIX, CONTEXT = noise("key", 32), noise("prefix", 24), b"corpus"
 
 
-def record_case(name: str, stream: bytes, result: str, key: bytes = KEY, prefix: bytes = PREFIX, context: bytes = CONTEXT) -> Case:
-    return {"case": name, "key": key, "prefix": prefix, "context": context, "stream": stream, "result": result}
+def record_case(name: str, stream: bytes, result: str, **other: bytes) -> Case:
+    own = {"key": KEY, "prefix": PREFIX, "context": CONTEXT} | other
+    return {"case": name, **own, "stream": stream, "result": result}
 
 
 def whole_streams(version: int) -> Iterator[Case]:
@@ -167,9 +169,11 @@ def sealed_cases() -> Iterator[str]:
 class File:
     """A random-access file and its last commit: the files before and after it, its writes and its journal."""
 
-    def __init__(self, variant: str, label: str = "file", counter: int = 1, page_size: int = 256, key: bytes | None = None) -> None:
+    def __init__(
+        self, variant: str, label: str = "file", counter: int = 1, page_size: int = 256, key: bytes = KEY
+    ) -> None:
         self.label, self.variant = f"{label} {variant} {counter}", variant
-        self.key = key or KEY[: 16 if VARIANTS[variant][0] == 128 else 32]
+        self.key = key[: 16 if VARIANTS[variant][0] == 128 else 32]
         self.pages = Pages(variant, self.key, page_size, noise(f"id {label}", 24))
         self.old_text, self.text = noise("old text", 300), noise("old text", 20) + noise("text", 320)
         self.old_header = self.header(counter, len(self.old_text))
@@ -194,7 +198,8 @@ class File:
 
 
 def pages_case(name: str, file: File, data: bytes, journal: bytes, result: str, **fields: Any) -> Case:
-    return {"case": name, "variant": file.variant, "key": file.key, "file": data, "journal": journal, "result": result} | fields
+    case = {"case": name, "variant": file.variant, "key": file.key, "file": data, "journal": journal}
+    return case | {"result": result} | fields
 
 
 def cases_of_each(variant: str) -> Iterator[Case]:
@@ -260,7 +265,8 @@ def journal_cases(file: File) -> Iterator[tuple[str, bytes, bytes, str]]:
     yield "a journal without writes", old, pages.framed(b"", nonce), "journal"
     yield "a journal whose last write is cut", old, pages.framed(content[:-1], nonce), "old"
     yield "a journal with half a head after its writes", old, pages.framed(content + bytes(8), nonce), "old"
-    yield "a journal with a write past 2^63 - 1", old, pages.framed(content + le(2**63 - 1, 8) + le(1, 8) + b"x", nonce), "old"
+    too_far = content + le(2**63 - 1, 8) + le(1, 8) + b"x"
+    yield "a journal with a write past 2^63 - 1", old, pages.framed(too_far, nonce), "old"
     yield "a whole journal and no file", b"", journal, "new"
     yield "a torn journal and no file", b"", journal[:-1], "header"
     yield "a torn journal and no header", changed(new, 40), journal[:-1], "header"
@@ -274,7 +280,7 @@ def header_cases(file: File) -> Iterator[tuple[str, bytes, bytes, str]]:
     def with_page_size(size: int) -> bytes:
         return File(file.variant, page_size=size).header(0, 0)
 
-    for name, at in (("mark", 3), ("variant", 4), ("page size", 5), ("id", 9), ("nonce", 33), ("numbers", 33 + pages.nonce_bytes)):
+    for name, at in ("mark", 3), ("variant", 4), ("page size", 5), ("id", 9), ("nonce", 33), ("numbers", end - 48):
         yield f"a changed {name}", changed(old, at), b"", "header"
     yield "a changed tag", changed(old, end - 1), b"", "header"
     yield "a changed padding", changed(changed(old, end), 600), b"", "old"
@@ -346,8 +352,8 @@ def check() -> int:
 def main(folder: str) -> int:
     if folder == "--check":
         return check()
-    for name, cases in (("records", record_cases()), ("sealed", sealed_cases()), ("random-access", random_access_cases())):
-        texts = list(cases)
+    for name, cases in ("records", record_cases), ("sealed", sealed_cases), ("random-access", random_access_cases):
+        texts = list(cases())
         (pathlib.Path(folder) / f"{name}.txt").write_text("\n".join(texts))
         print(f"{name}: {len(texts)} cases")
     return 0

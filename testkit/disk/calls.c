@@ -1,9 +1,9 @@
 /*
- * The disk below any program: a library that is loaded before the C library (LD_PRELOAD), for glibc on x86-64. Calls of the
- * system on files in the disk's folder are made on these files and on the disk. DISK is the path of the disk.
+ * The disk below any program: a library that is loaded before the C library (LD_PRELOAD), for glibc on x86-64. Calls on
+ * files in the disk's folder are made on these files and on the disk, whose path is in DISK.
  *
- * The files of the folder show what a program reads, so calls that only read are not replaced. Writes in other ways, such as
- * through a memory map, are noticed by disk_check, which the driver calls: they end the test.
+ * The files have what can be read, so calls that only read are not replaced. disk_check, which the driver calls,
+ * notices writes in other ways, such as through a memory map.
  */
 #ifndef _GNU_SOURCE
 #define _GNU_SOURCE
@@ -200,11 +200,6 @@ int fsync(int fd)
     return (int)syscall(SYS_fsync, fd);
 }
 
-int fdatasync(int fd)
-{
-    return fsync(fd);
-}
-
 /* Makes an open file show what can be read. */
 static void show(int fd, const struct node *node)
 {
@@ -284,7 +279,7 @@ int link(const char *path, const char *to_path)
     return name(SYS_linkat, AT_FDCWD, path, AT_FDCWD, to_path, 0);
 }
 
-/* The other names of these calls. All of them have 64 bits. */
+/* The other names of these calls. Their offsets have 64 bits too. */
 #define ALSO(type, alias_name, parameters, of) type alias_name parameters __attribute__((alias(#of)));
 ALSO(int, open64, (const char *path, int flags, ...), open)
 ALSO(int, openat64, (int folder, const char *path, int flags, ...), openat)
@@ -292,6 +287,7 @@ ALSO(int, creat64, (const char *path, mode_t mode), creat)
 ALSO(ssize_t, pwrite64, (int fd, const void *bytes, size_t length, off_t place), pwrite)
 ALSO(int, ftruncate64, (int fd, off_t size), ftruncate)
 ALSO(int, fallocate64, (int fd, int mode, off_t place, off_t length), fallocate)
+ALSO(int, fdatasync, (int fd), fsync)
 ALSO(int, posix_fadvise64, (int fd, off_t place, off_t length, int advice), posix_fadvise)
 
 /* ---- For the driver */

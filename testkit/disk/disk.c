@@ -31,11 +31,6 @@ static uint64_t draw(struct disk *disk, uint64_t below)
     return (disk->random >> 11) % below;
 }
 
-static size_t least(size_t one, size_t other)
-{
-    return one < other ? one : other;
-}
-
 /* Calls of the system are made directly: a program may have the disk in the place of those of its C library. */
 struct disk *disk_map(const char *path)
 {
@@ -172,9 +167,15 @@ void disk_rename(struct disk *disk, const char *from, const char *to, struct nod
     lead(disk, name_of(disk, to), (int)(node - disk->nodes), other, NOTHING);
 }
 
+/* Counts a sync. Returns whether it fails. */
+static int sync_fails(struct disk *disk)
+{
+    return (int)(disk->failing_syncs >> disk->syncs++ % 64 & 1);
+}
+
 int disk_sync_names(struct disk *disk)
 {
-    if (disk_fails(disk) || (disk->failing_syncs >> disk->syncs++ % 64 & 1) != 0) {
+    if (disk_fails(disk) || sync_fails(disk)) {
         return 0;
     }
     for (int i = 0; i < NAMES; i++) {
@@ -199,6 +200,16 @@ static void put(uint8_t *bytes, uint32_t *length, size_t place, const uint8_t *f
         resize(bytes, length, place + count);
     }
     memcpy(bytes + place, from, count);
+}
+
+/* Makes a change of bytes that are `*length` long. */
+static void apply(const struct change *change, const uint8_t *from, uint8_t *bytes, uint32_t *length)
+{
+    if (change->is_size) {
+        resize(bytes, length, change->place);
+    } else {
+        put(bytes, length, change->place, from, change->length);
+    }
 }
 
 static void add_change(struct node *node, size_t place, const uint8_t *bytes, size_t length, int is_size)
@@ -249,7 +260,7 @@ static void store_part(struct disk *disk, struct node *node, size_t place, const
     size_t whole = draw(disk, 3) == 0 ? place + draw(disk, length + 1) : place;
     store_piece(disk, node, place, bytes, whole - place, 1);
     for (size_t at = whole, next; at < end; at = next) {
-        next = least((at / piece + 1) * piece, end);
+        next = (at / piece + 1) * piece < end ? (at / piece + 1) * piece : end;
         store_piece(disk, node, at, bytes + (at - place), next - at, (int)((first + draw(disk, kinds)) % 4));
     }
 }
@@ -275,12 +286,9 @@ static void store(struct disk *disk, struct node *node, int is_all)
     for (uint32_t i = 0; i < node->change_count; i++) {
         const struct change *change = &node->changes[i];
         int is_kept = disk->is_deaf || !is_over_failure(node, change);
-        int is_whole = (is_kept || draw(disk, 2) == 0) && (habit == 1 || (habit > 1 && draw(disk, 2) == 0));
-        if (change->is_size && (is_whole || (!is_all && draw(disk, 2) == 0))) {
-            resize(node->stored, &node->stored_length, change->place);
-        } else if (!change->is_size && is_whole) {
-            put(node->stored, &node->stored_length, change->place, bytes, change->length);
-        } else if (!change->is_size && !is_all && draw(disk, 4) != 0) {
+        if ((is_kept || draw(disk, 2) == 0) && (habit == 1 || (habit > 1 && draw(disk, 2) == 0))) {
+            apply(change, bytes, node->stored, &node->stored_length);
+        } else if (!is_all && !change->is_size && draw(disk, 4) != 0) {
             store_part(disk, node, change->place, bytes, change->length);
         }
         bytes += change->length;
@@ -293,7 +301,7 @@ int disk_sync(struct disk *disk, struct node *node)
     if (disk_fails(disk)) {
         return 0;
     }
-    int fails = (disk->failing_syncs >> disk->syncs++ % 64 & 1) != 0;
+    int fails = sync_fails(disk);
     if (fails) {
         disk_must(node->failure_count + node->change_count <= MOST_CHANGES, "too many failures");
         memcpy(node->failures + node->failure_count, node->changes, node->change_count * sizeof *node->changes);
@@ -314,13 +322,8 @@ void disk_forget(struct disk *disk, struct node *node)
     node->length = node->stored_length;
     node->failure_count = 0;
     for (uint32_t i = 0; i < node->change_count; i++) {
-        const struct change *change = &node->changes[i];
-        if (change->is_size) {
-            resize(node->now, &node->length, change->place);
-        } else {
-            put(node->now, &node->length, change->place, bytes, change->length);
-        }
-        bytes += change->length;
+        apply(&node->changes[i], bytes, node->now, &node->length);
+        bytes += node->changes[i].length;
     }
 }
 

@@ -1,15 +1,14 @@
 /*
- * A disk that loses power, for tests: one folder of files. Each file has what a program reads, and what the disk has stored.
+ * A disk that loses power, for tests: a folder of files. Each file has what can be read, and what the disk has stored.
  *
- * - What was written since the last sync is there after a loss of power in any order and in pieces: as it was to be, as it
- *   was, as zeros or as garbage. A size is the new one or an old one.
- * - A sync that fails is as on Linux: the disk stores any part of the changes, they can be read, and no later sync stores
- *   them. On one kind of disk, as with ext4, it may not store what is written over them either, until disk_forget makes
- *   reads return what is stored. A deaf disk stores that, and forgets nothing.
- * - A name that was made, replaced or removed is so after a loss of power once its folder was synced. Before, any of these
- *   changes may be lost.
+ * - After a loss of power, pieces of what was written since the last sync are as they were to be, as they were before,
+ *   zeros, or garbage. A size is the new one or an old one.
+ * - A sync that fails behaves as on Linux. The disk stores any part of the changes, all of them can be read, and no
+ *   later sync stores them. A later sync may not even store what is written over them, until disk_forget makes reads
+ *   return what is stored. A deaf disk stores it, and forgets nothing.
+ * - A name that was made, replaced or removed may be the old one after a loss of power, until its folder is synced.
  *
- * The disk is plain memory without pointers, so that programs share it, and copies are other disks.
+ * The disk is memory without pointers, so that programs share it, and a copy is another disk.
  */
 #ifndef DISK_H
 #define DISK_H
@@ -57,10 +56,7 @@ struct disk {
     /* The folder, without a slash at its end, and what the system knows it by. */
     char folder[256];
     uint64_t device, folder_number;
-    /*
-     * The plan. Calls that change something are counted, from 0, and those from `first_failure` up to `last_failure` fail.
-     * So do the syncs whose bits are set.
-     */
+    /* The plan: which of the calls that change something fail, counted from 0, and the bits of the syncs that fail. */
     int calls, first_failure, last_failure, syncs;
     uint64_t failing_syncs, random;
     int is_deaf;

@@ -1,7 +1,6 @@
 /*
- * program PATH KEY: makes the commands of standard input with a random-access file of AEGIS-256, and answers each with a
- * line. README.md has the commands. Over the table of functions of hunkravy_file.h (compiled with -DTABLE) the path is that
- * of the disk, and its file is `file`.
+ * program PATH KEY: makes the commands of standard input with a random-access file of AEGIS-256, and answers each with
+ * a line. README.md has the commands. With -DTABLE the path is that of the disk, below the functions of a storage.
  */
 #include "hunkravy_file.h"
 #ifdef TABLE

@@ -1,5 +1,5 @@
-"""program PATH KEY: makes the commands of standard input with a random-access file of AEGIS-256, and answers each with a
-line. README.md has the commands."""
+"""program PATH KEY: makes the commands of standard input with a random-access file of AEGIS-256, and answers each with
+a line. README.md has the commands."""
 
 import sys
 from typing import Any

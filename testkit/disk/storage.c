@@ -1,4 +1,4 @@
-/* The storage of storage.h. The journal and its copy have the names that c/file gives them. A first write makes a file. */
+/* The storage of storage.h. The journal and its copy have their names of c/file. The first write makes a file. */
 #ifndef _GNU_SOURCE
 #define _GNU_SOURCE
 #endif
