@@ -1,5 +1,5 @@
 # A disk that loses power, and a corpus of files in each format: README.md.
-.PHONY: check-disk check-corpus
+.PHONY: check-disk check-corpus check-corpus-rattle
 
 DISK = $(OUT)/disk
 DISK_SOURCES = $(wildcard testkit/disk/*.[ch])
@@ -40,3 +40,12 @@ check-corpus: | $(OUT)
 	rm -rf $(OUT)/corpus && mkdir $(OUT)/corpus
 	python3 -B testkit/corpus/make.py $(OUT)/corpus
 	for name in records sealed random-access; do cmp testkit/corpus/$$name.txt $(OUT)/corpus/$$name.txt || exit 1; done
+
+# The proved readers: random-access files, and record streams by the line program. The file tool's are in check-tool.
+CORPUS_PROGRAM = crates/aegis_corpus/out/aegis_corpus
+
+check-corpus-rattle: $(CORPUS_PROGRAM) $(OUT)/line-program
+	python3 -B testkit/corpus/check_rattle.py $(CORPUS_PROGRAM) crates/aegis_vectors/out/aegis_vectors
+
+$(CORPUS_PROGRAM): $(call sources,aegis_corpus) crates.txt
+	cd crates/aegis_corpus && rt run > /dev/null
