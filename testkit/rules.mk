@@ -8,7 +8,8 @@ DISK_SECONDS = 60
 
 # Random histories of random-access files in C, Rust and Python over the disk. All of them open what is left.
 check-disk: $(DISK)/libdisk.so $(DISK_PROGRAMS)
-	testkit/disk/run --seconds $(DISK_SECONDS) --keep $(DISK)/kept $(DISK)
+	rm -f $(DISK)/images.*
+	testkit/disk/run --seconds $(DISK_SECONDS) --keep $(DISK)/kept --images $(DISK)/images $(DISK)
 
 $(DISK)/libdisk.so: $(DISK_SOURCES)
 	mkdir -p $(@D)
@@ -41,11 +42,17 @@ check-corpus: | $(OUT)
 	python3 -B testkit/corpus/make.py $(OUT)/corpus
 	for name in records sealed random-access; do cmp testkit/corpus/$$name.txt $(OUT)/corpus/$$name.txt || exit 1; done
 
-# The proved readers: random-access files, and record streams by the line program. The file tool's are in check-tool.
+# The proved programs read record streams and random-access files, and what check-disk has left. The file tool reads sealed
+# files in check-tool.
 CORPUS_PROGRAM = crates/aegis_corpus/out/aegis_corpus
 
 check-corpus-rattle: $(CORPUS_PROGRAM) $(OUT)/line-program
 	python3 -B testkit/corpus/check_rattle.py $(CORPUS_PROGRAM) crates/aegis_vectors/out/aegis_vectors
+	if [ -s $(DISK)/images.in ]; then \
+		$(CORPUS_PROGRAM) < $(DISK)/images.in | grep '^ok' | cut -d' ' -f1,2 | cmp - $(DISK)/images.out && wc -l < $(DISK)/images.out; \
+	else \
+		echo 'left out: what a loss of power has left, since check-disk has not run'; \
+	fi
 
 $(CORPUS_PROGRAM): $(call sources,aegis_corpus) crates.txt
 	cd crates/aegis_corpus && rt run > /dev/null

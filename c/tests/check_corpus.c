@@ -262,6 +262,15 @@ static void check_pages(struct corpus_case *one)
 
 /* ---- The cases */
 
+static const char *current;
+
+static void name_current(void)
+{
+    if (current != NULL) {
+        fprintf(stderr, "in the case: %s\n", current);
+    }
+}
+
 static size_t check_all(const char *name, void (*check)(struct corpus_case *))
 {
     static struct corpus_case one;
@@ -280,7 +289,9 @@ static size_t check_all(const char *name, void (*check)(struct corpus_case *))
             read_field(&one, line);
             continue;
         }
+        current = one.name;
         check(&one);
+        current = NULL;
         memset(&one, 0, sizeof one);
         count++;
     }
@@ -290,8 +301,11 @@ static size_t check_all(const char *name, void (*check)(struct corpus_case *))
 
 int main(void)
 {
-    size_t records = check_all("records", check_records), sealed = check_all("sealed", check_sealed);
-    size_t pages = check_all("random-access", check_pages);
+    size_t records, sealed, pages;
+    HOLDS(atexit(name_current) == 0);
+    records = check_all("records", check_records);
+    sealed = check_all("sealed", check_sealed);
+    pages = check_all("random-access", check_pages);
     HOLDS(records >= 70 && sealed >= 30 && pages >= 110);
     printf("the corpus: %zu record streams, %zu sealed files, %zu random-access files\n", records, sealed, pages);
     return EXIT_SUCCESS;
