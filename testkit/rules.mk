@@ -9,6 +9,7 @@ DISK_SECONDS = 60
 # Random histories of random-access files in C, Rust and Python over the disk. All of them open what is left.
 check-disk: $(DISK)/libdisk.so $(DISK_PROGRAMS)
 	rm -f $(DISK)/images.*
+	testkit/disk/run --lying $(DISK)
 	testkit/disk/run --seconds $(DISK_SECONDS) --keep $(DISK)/kept --images $(DISK)/images $(DISK)
 
 $(DISK)/libdisk.so: $(DISK_SOURCES)

@@ -41,7 +41,7 @@ struct disk *disk_map(const char *path)
     return memory;
 }
 
-void disk_begin(struct disk *disk, const char *folder, int is_deaf)
+void disk_begin(struct disk *disk, const char *folder, int is_deaf, int is_lying)
 {
     memset(disk, 0, offsetof(struct disk, nodes));
     for (int i = 0; i < NODES; i++) {
@@ -50,6 +50,7 @@ void disk_begin(struct disk *disk, const char *folder, int is_deaf)
     disk_must(strlen(folder) < sizeof disk->folder, "a long path");
     strcpy(disk->folder, folder);
     disk->is_deaf = is_deaf;
+    disk->is_lying = is_lying;
     disk_plan(disk, INT_MAX, INT_MAX, 0);
 }
 
@@ -300,6 +301,9 @@ int disk_sync(struct disk *disk, struct node *node)
 {
     if (disk_fails(disk)) {
         return 0;
+    }
+    if (disk->is_lying) {
+        return 1;
     }
     int fails = sync_fails(disk);
     if (fails) {

@@ -5,7 +5,7 @@
  *   zeros, or garbage. A size is the new one or an old one.
  * - A sync that fails behaves as on Linux. The disk stores any part of the changes, all of them can be read, and no
  *   later sync stores them. A later sync may not even store what is written over them, until disk_forget makes reads
- *   return what is stored. A deaf disk stores it, and forgets nothing.
+ *   return what is stored. A deaf disk stores it, and forgets nothing. A disk that lies stores nothing in a sync.
  * - A name that was made, replaced or removed may be the old one after a loss of power, until its folder is synced.
  *
  * The disk is memory without pointers, so that programs share it, and a copy is another disk.
@@ -59,7 +59,7 @@ struct disk {
     /* The plan: which of the calls that change something fail, counted from 0, and the bits of the syncs that fail. */
     int calls, first_failure, last_failure, syncs;
     uint64_t failing_syncs, random;
-    int is_deaf;
+    int is_deaf, is_lying;
     int renaming_count;
     struct renaming renamings[MOST_CHANGES];
     struct name names[NAMES];
@@ -72,7 +72,7 @@ void disk_must(int holds, const char *what);
 /* Maps the disk in a file, which is made if it is not there. */
 struct disk *disk_map(const char *path);
 /* Makes the disk that of an empty folder. */
-void disk_begin(struct disk *disk, const char *folder, int is_deaf);
+void disk_begin(struct disk *disk, const char *folder, int is_deaf, int is_lying);
 void disk_copy(struct disk *to, const struct disk *from);
 void disk_plan(struct disk *disk, int first_failure, int last_failure, uint64_t failing_syncs);
 
