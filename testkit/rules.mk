@@ -56,4 +56,4 @@ check-corpus-rattle: $(CORPUS_PROGRAM) $(OUT)/line-program
 	fi
 
 $(CORPUS_PROGRAM): $(call sources,aegis_corpus) crates.txt
-	cd crates/aegis_corpus && rt run > /dev/null
+	cd crates/aegis_corpus && rt run < stdin > /dev/null
