@@ -297,6 +297,27 @@ static void in_folder(const struct disk *of, const char *name, char *path)
     snprintf(path, sizeof of->folder + NAME_BYTES, "%s/%s", of->folder, name);
 }
 
+/* Makes the file of a name, or one more name of the file that has another. */
+static void show_name(struct disk *of, int name)
+{
+    char path[sizeof of->folder + NAME_BYTES], other[sizeof path];
+    struct node *node = &of->nodes[of->names[name].now];
+    struct stat found;
+    in_folder(of, of->names[name].text, path);
+    for (int i = 0; i < name; i++) {
+        if (of->names[i].now == of->names[name].now) {
+            in_folder(of, of->names[i].text, other);
+            disk_must(syscall(SYS_linkat, AT_FDCWD, other, AT_FDCWD, path, 0) == 0, "no link");
+            return;
+        }
+    }
+    int fd = (int)syscall(SYS_openat, AT_FDCWD, path, O_RDWR | O_CREAT | O_EXCL, 0600);
+    show(fd, node);
+    disk_must(syscall(SYS_newfstatat, fd, "", &found, AT_EMPTY_PATH) == 0, "no file");
+    node->number = found.st_ino;
+    syscall(SYS_close, fd);
+}
+
 /* Makes the files in the folder those that can be read. `of` gets their numbers. */
 void disk_show(struct disk *of)
 {
@@ -311,13 +332,7 @@ void disk_show(struct disk *of)
     }
     for (int i = 0; i < NAMES && of->names[i].text[0] != 0; i++) {
         if (of->names[i].now != NOTHING) {
-            struct node *node = &of->nodes[of->names[i].now];
-            in_folder(of, of->names[i].text, path);
-            int fd = (int)syscall(SYS_openat, AT_FDCWD, path, O_RDWR | O_CREAT | O_EXCL, 0600);
-            show(fd, node);
-            disk_must(syscall(SYS_newfstatat, fd, "", &found, AT_EMPTY_PATH) == 0, "no file");
-            node->number = found.st_ino;
-            syscall(SYS_close, fd);
+            show_name(of, i);
         }
     }
 }
