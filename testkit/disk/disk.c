@@ -51,7 +51,7 @@ void disk_begin(struct disk *disk, const char *folder, int is_deaf, int is_lying
     strcpy(disk->folder, folder);
     disk->is_deaf = is_deaf;
     disk->is_lying = is_lying;
-    disk_plan(disk, INT_MAX, INT_MAX, 0);
+    disk_plan(disk, INT_MAX, INT_MAX, 0, 0);
 }
 
 void disk_copy(struct disk *to, const struct disk *from)
@@ -69,9 +69,10 @@ void disk_copy(struct disk *to, const struct disk *from)
     }
 }
 
-void disk_plan(struct disk *disk, int first_failure, int last_failure, uint64_t failing_syncs)
+void disk_plan(struct disk *disk, int first_failure, int last_failure, uint64_t failing_syncs, int stops)
 {
     disk->calls = disk->syncs = 0;
+    disk->stops = stops;
     disk->first_failure = first_failure;
     disk->last_failure = last_failure;
     disk->failing_syncs = failing_syncs;
@@ -171,7 +172,12 @@ void disk_rename(struct disk *disk, const char *from, const char *to, struct nod
 /* Counts a sync. Returns whether it fails. */
 static int sync_fails(struct disk *disk)
 {
-    return (int)(disk->failing_syncs >> disk->syncs++ % 64 & 1);
+    int fails = (int)(disk->failing_syncs >> disk->syncs++ % 64 & 1);
+    if (fails && disk->stops) {
+        disk->first_failure = disk->calls;
+        disk->last_failure = INT_MAX;
+    }
+    return fails;
 }
 
 int disk_sync_names(struct disk *disk)
@@ -369,5 +375,5 @@ void disk_crash(struct disk *disk, uint64_t seed)
         memcpy(node->now, node->stored, node->stored_length);
         node->length = node->stored_length;
     }
-    disk_plan(disk, INT_MAX, INT_MAX, 0);
+    disk_plan(disk, INT_MAX, INT_MAX, 0, 0);
 }
