@@ -15,13 +15,13 @@ PUBLIC = {
     "record_sealer/in_place",
     "aegis_aes/src": "block block2 block4",
     "aegis_base/src": "chunks laws",
-    "aegis_c/src": "journal message page record state",
+    "aegis_c/src": "journal message page record state steps",
     "aegis_engine/src": "cipher encryptor decryptor mac",
     "aegis_files/src": "open range reading rekey seal",
     "aegis_lines/src": "answer",
     "aegis_pages/src": "draws header laws layout opening page pages",
     "aegis_session/src": "session",
-    "aegis_storage/src": "atomic laws recovery store",
+    "aegis_storage/src": "atomic laws recovery steps store",
     "aegis_variants/src": "cipher variant",
 }
 
