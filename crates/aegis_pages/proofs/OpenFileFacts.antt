@@ -2,7 +2,7 @@
 use Rattle.std.proofs.Common.{◌≡◌, ℕ, ◌+◌, ◌-◌, ◌<◌, ◌≤◌, Bool, false, List, [], ◌∷◌, ◌++◌, Option, None, Some, IfSome, drop, get_or, length, max, min, take, refl, sym, ap, subst, ◌∙◌, arith}
 use Rattle.std.proofs.lemmas.List.{append-nil, drop_all, ext_get_or, length-append, length-drop, length-take, nil_from_length, take_all}
 use Rattle.aegis_aes.specs.Lanes.{IsLaneCount}
-use Rattle.aegis_storage.specs.Bytes.{ResizesTo, WritesAt, overwritten, part_at, resized}
+use Rattle.aegis_storage.specs.Bytes.{IfKnown, ResizesTo, WritesAt, overwritten, part_at, resized}
 use Rattle.aegis_storage.specs.Disk.{Adds, Disk, IsPossible, IsSynced, IsWithin, MakesSynced, SettlesTo, Size, Write, after, certain}
 use Rattle.aegis_storage.proofs.Disks.{applied_append, readable, resized_none, settles_emptied, within_after, within_both, within_settles}
 use Rattle.std.specs.Io.KnownBytes.{Keeps}
