@@ -36,8 +36,9 @@ fn opened<L: SavedLanes, const KEY_BYTES: usize>(
     let mut own_key = [0; KEY_BYTES];
     hex::decode_to_slice(key, &mut own_key)?;
     let (file, journal) = (hex::decode(alloc, file)?, hex::decode(alloc, journal)?);
-    let mut pages =
-        Pages::<L, KEY_BYTES, _, _, _, _>::open(alloc, file, journal, NoNonces, &own_key)?;
+    let mut pages = Pages::<L, KEY_BYTES, _, _, _, _>::open(
+        alloc, file, journal, NoNonces, &own_key,
+    )?;
     let mut contents = Vec::new(alloc);
     contents.resize(usize::try_from(pages.len())?, 0)?;
     pages.read_at(0, &mut contents)?;

@@ -1,9 +1,9 @@
 -- What calls do to what a crash may leave.
 use Rattle.std.specs.Prelude.{⊤}
 use Rattle.std.proofs.Common.{◌≡◌, ℕ, ◌+◌, ◌<◌, ◌≤◌, ◌⊎◌, inl, inr, List, [], ◌∷◌, ◌++◌, None, Some, OnErr, OnOk, Option, Result, Ok, Err, get_or, length, max, refl, sym, subst, ap, ◌∙◌, arith}
-use Rattle.std.proofs.lemmas.List.{append-nil, append_assoc, ext_get_or, map-append}
-use Rattle.aegis_storage.specs.Bytes.{IfKnown, overwritten, resized}
-use Rattle.aegis_storage.specs.Disk.{Adds, AreLeftOf, AreParts, Change, CrashLeaves, Crashed, Disk, IsPart, IsPartOfOne, IsPossible, IsSynced, IsWithin, MakesSynced, SettlesTo, Size, Spoils, Write, Writes, after, applied, certain, changed, changes, after_writes, spoilt}
+use Rattle.std.proofs.lemmas.List.{append-nil, append_assoc, ext_get_or}
+use Rattle.aegis_storage.specs.Bytes.{overwritten, resized}
+use Rattle.aegis_storage.specs.Disk.{AreLeftOf, AreParts, Change, CrashLeaves, Crashed, Disk, IsPart, IsPartOfOne, IsPossible, IsWithin, MakesSynced, SettlesTo, Size, Write, Writes, after, applied, certain, changed, changes, after_writes, spoilt}
 use Rattle.aegis_storage.specs.Steps.{LeavesNoMore}
 use Rattle.aegis_storage.proofs.Overwriting.{after_part, before_part, length-overwritten, within_part}
 
@@ -240,9 +240,9 @@ emptied_parts [] xs are = inl refl
 emptied_parts (Write at bs ∷ parts) xs are = elim are.0 [ inl none ↦ absurd none | inr none ↦ absurd none ]
 emptied_parts (Size n ∷ parts) xs are = elim are.0 [
   | inl is ↦ inr (elim (emptied_parts parts (resized xs n) are.1) [
-      | inl same ↦ same ∙ ap (resized xs) is ∙ resized_none xs
-      | inr none ↦ none
-    ])
+    | inl same ↦ same ∙ ap (resized xs) is ∙ resized_none xs
+    | inr none ↦ none
+  ])
   | inr none ↦ absurd none
 ]
 

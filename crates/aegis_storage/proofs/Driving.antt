@@ -1,9 +1,9 @@
 -- Commits and recoveries whose steps stopped, or came to their end.
 use Rattle.std.proofs.Common.{◌≡◌, ℕ, List, [], Err, IfSome, None, OnOk, Ok, Option, Result, Some, ap, length, subst, subst₂, sym, take, ◌∙◌}
 use Rattle.aegis_storage.specs.Disk.{Crashed, Disk, IsPossible, Writes, WritesAll, after_writes, certain}
-use Rattle.aegis_storage.specs.Journal.{HasBeginning, IsAtRest, IsJournal, IsNoForgery, KeepsBeginning, RecoversKnown, RecoversUnlessForged, RestsAtEither}
+use Rattle.aegis_storage.specs.Journal.{IsAtRest, IsJournal, IsNoForgery, KeepsBeginning, RecoversKnown, RecoversUnlessForged, RestsAtEither}
 use Rattle.aegis_storage.specs.Steps.{AreRedone, Held, Knows, LeavesOne, Recoverable, Taken, commit_steps, held, journal_effect, recovery_steps, storage_effect}
-use Rattle.aegis_storage.proofs.Disks.{has_left, readable, readable_certain}
+use Rattle.aegis_storage.proofs.Disks.{readable, readable_certain}
 use Rattle.aegis_storage.proofs.StepLaws.{commit_begins, commit_recovers, commit_rests, recovery_begins, recovery_recovers, recovery_rests}
 use Rattle.aegis_storage.proofs.Stepping.{Stopped, known_redone}
 

@@ -1,5 +1,5 @@
 -- Writes, journals and their beginnings, and the states of a commit and of a recovery.
-use Rattle.std.proofs.Common.{◌≡◌, ◌+◌, ◌<◌, ℕ, List, [], ◌∷◌, ◌++◌, drop, get_or, length, take, refl, arith, ◌^◌, ◌≤◌, ◌⊎◌, inl, inr, IfSome, None, Some, Option, sym, ap, ◌∙◌}
+use Rattle.std.proofs.Common.{◌≡◌, ◌+◌, ◌<◌, ℕ, List, [], ◌∷◌, ◌++◌, drop, get_or, length, take, refl, arith, ◌^◌, ◌≤◌, ◌⊎◌, inl, inr, None, Some, Option, sym, ap, ◌∙◌}
 use Rattle.std.proofs.lemmas.Grind.{common_steps, flat_map-append}
 use Rattle.std.proofs.lemmas.List.{append-nil, append_assoc, map-append, take-append-drop, take_more, drop_at, length-append, take_at, take_all}
 use Rattle.std.proofs.lemmas.Nat.{from_le_bytes-to_le_bytes_8}

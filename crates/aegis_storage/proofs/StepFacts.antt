@@ -1,5 +1,5 @@
 -- The order of the steps.
-use Rattle.std.proofs.Common.{◌≡◌, ◌≢◌, ℕ, zero, suc, ◌+◌, ◌-◌, ◌<◌, ◌≤◌, ◌⊎◌, inl, inr, List, [], ◌∷◌, ◌++◌, get_or, length, map, take, zero-add, refl, ◌∙◌, arith}
+use Rattle.std.proofs.Common.{◌≡◌, ◌≢◌, ℕ, zero, suc, ◌+◌, ◌-◌, ◌<◌, ◌≤◌, ◌⊎◌, inl, inr, List, [], ◌∷◌, ◌++◌, length, map, take, zero-add, refl, ◌∙◌, arith}
 use Rattle.std.proofs.lemmas.List.{get_or_append_left, get_or-append_right, take-append-le}
 use Rattle.std.proofs.lemmas.List.FromFn.{get_or-map-range_with_len, length-map-range_with_len, take-map-range_with_len}
 use Rattle.std.proofs.Math.Seq.{take-append-add}
@@ -49,4 +49,3 @@ take_making n m low = take-append-le m (makes n) ends (let long = long-makes n i
 
 pub take_ended : (n j : ℕ) → take (n + j) (writing_steps n) ≡ makes n ++ take j ends
 take_ended n j = rw long-makes at (take-append-add (makes n) ends j)
-

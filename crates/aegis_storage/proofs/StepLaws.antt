@@ -1,14 +1,14 @@
 -- The laws of the steps, as `laws` states them.
-use Rattle.std.proofs.Common.{◌≡◌, ℕ, zero, suc, ◌+◌, ◌≤◌, ◌⊎◌, inl, inr, List, [], ◌∷◌, ◌++◌, ◌-◌, ◌<◌, Some, drop, length, refl, sym, ap, subst, take, ◌∙◌, arith}
+use Rattle.std.proofs.Common.{◌≡◌, ℕ, zero, suc, ◌+◌, ◌≤◌, ◌⊎◌, inl, inr, List, [], ◌∷◌, ◌-◌, Some, drop, length, refl, sym, ap, take, ◌∙◌, arith}
 use Rattle.std.proofs.lemmas.List.{length-take-le, take-append-drop}
-use Rattle.aegis_storage.specs.Bytes.{overwritten, resized}
+use Rattle.aegis_storage.specs.Bytes.{overwritten}
 use Rattle.aegis_storage.specs.Disk.{Crashed, Disk, IsWithin, SettlesTo, Size, Write, Writes, after, after_writes, certain, spoilt}
-use Rattle.aegis_storage.specs.Journal.{GivesOneOf, HasBeginning, IsAtRest, IsJournal, IsNoForgery, IsOneOf, IsSafe, KeepsBeginning, RecoversUnlessForged, RestsAtEither, entries}
+use Rattle.aegis_storage.specs.Journal.{GivesOneOf, HasBeginning, IsAtRest, IsJournal, IsOneOf, IsSafe, KeepsBeginning, RecoversUnlessForged, RestsAtEither, entries}
 use Rattle.aegis_storage.specs.Steps.{AreRedone, Changes, Does, Held, Leaves, LeavesNoMore, Nothing, Recoverable, StaysCertain, StopsAt, Syncs, Taken, commit_steps, step_at, held, journal_effect, recovery_steps, storage_effect, writing_steps}
-use Rattle.aegis_storage.proofs.Disks.{certain_only, crashed_left, left_crashed, resized_none, settles_emptied, settles_only, settles_certain, spoilt_crashed, unmade, within_after, within_crashed, within_itself, within_settles}
-use Rattle.aegis_storage.proofs.Journals.{BeginsAs, again, any_journal, beginning_begins, beginning_stays, begins_keeps, certain_begins, emptied_begins, gives_of, length-framed, one_journal, one_written, safe_of}
+use Rattle.aegis_storage.proofs.Disks.{certain_only, resized_none, settles_emptied, settles_only, settles_certain, spoilt_crashed, unmade, within_after, within_crashed, within_itself, within_settles}
+use Rattle.aegis_storage.proofs.Journals.{BeginsAs, again, any_journal, beginning_begins, beginning_stays, begins_keeps, certain_begins, emptied_begins, gives_of, length-framed, one_written, safe_of}
 use Rattle.aegis_storage.proofs.Overwriting.{overwritten_end, overwritten_whole}
-use Rattle.aegis_storage.specs.declared.steps.Step.TheVariants.{EmptyJournal, SyncJournal, SyncStorage}
+use Rattle.aegis_storage.specs.declared.steps.Step.TheVariants.{SyncStorage}
 use Rattle.aegis_storage.proofs.StepFacts.{ends, far, makes, step_ended, step_making, take_ended, take_making}
 use Rattle.aegis_storage.proofs.Taking.{Making, changed_synced, failed_syncs, journal_kept, taken_both, writing_ends_journal, writing_ends_storage, writing_stops}
 use Rattle.std.specs.List.{range_with_len}

@@ -1,11 +1,11 @@
 -- The steps that a driver takes, on storages whose bytes and disks may be known.
 use Rattle.std.proofs.Common.{◌≡◌, ℕ, zero, suc, ◌+◌, ◌-◌, ◌<◌, ◌≤◌, inl, inr, List, [], ◌∷◌, ◌++◌, IfSome, None, Some, Option, drop, get_or, length, map, min, take, refl, subst, sym, ap, ◌∙◌, arith}
-use Rattle.std.proofs.lemmas.List.{append-nil, drop_all, length-append, take_all}
+use Rattle.std.proofs.lemmas.List.{drop_all, length-append, take_all}
 use Rattle.std.proofs.Math.Seq.{drop-cons, take-suc}
 use Rattle.std.specs.Io.KnownBytes.{Keeps}
 use Rattle.std.specs.List.{range_with_len}
 use Rattle.aegis_storage.specs.Bytes.{IfKnown, WritesAt}
-use Rattle.aegis_storage.specs.Disk.{Adds, Change, Disk, IsSynced, IsWithin, MakesSynced, Spoils, Write, Writes, WritesAll, after, after_writes, changed, spoilt}
+use Rattle.aegis_storage.specs.Disk.{Adds, Disk, IsWithin, MakesSynced, Spoils, Write, Writes, WritesAll, after, after_writes, changed, spoilt}
 use Rattle.aegis_storage.specs.Journal.{AreWithin, RecoversKnown, entries, entry}
 use Rattle.aegis_storage.specs.Steps.{AreRedone, Changes, Does, Effect, Fails, Has, Held, IsNext, Knows, Leaves, LeavesOne, Nothing, Replaces, StopsAt, Syncs, Taken, held, journal_effect, made_with, step_at, steps_of, storage_effect, write_of, writing_steps}
 use Rattle.aegis_storage.specs.declared.steps.Order.{Order}

@@ -1,18 +1,16 @@
 -- Steps that are taken, and where they stop.
-use Rattle.std.proofs.Common.{◌≡◌, ◌≢◌, ℕ, zero, suc, ◌+◌, ◌-◌, ◌<◌, ◌≤◌, ◌⊎◌, inl, inr, List, [], ◌∷◌, ◌++◌, Some, Option, add-one, drop, get_or, length, map, take, refl, sym, subst, ap, ap₂, ◌∙◌, arith}
-use Rattle.std.proofs.lemmas.List.{length-take-le, map-append, take-append-drop, take_all}
+use Rattle.std.proofs.Common.{◌≡◌, ℕ, zero, suc, ◌+◌, ◌-◌, ◌<◌, ◌≤◌, ◌⊎◌, inl, inr, List, [], ◌∷◌, ◌++◌, Some, add-one, drop, get_or, length, map, take, refl, sym, subst, ap, ap₂, ◌∙◌, arith}
+use Rattle.std.proofs.lemmas.List.{map-append, take-append-drop, take_all}
 use Rattle.std.proofs.Math.Seq.{take-suc}
 use Rattle.std.specs.List.{range_with_len}
-use Rattle.aegis_storage.specs.Bytes.{overwritten, resized}
-use Rattle.aegis_storage.specs.Disk.{AreParts, Change, Crashed, Disk, IsWithin, MakesSynced, SettlesTo, Size, Write, Writes, after, after_writes, certain, changed, changes, spoilt}
-use Rattle.aegis_storage.specs.Journal.{IsJournal, IsOneOf, RecoversUnlessForged}
-use Rattle.aegis_storage.specs.Steps.{Changes, Does, Effect, Held, Leaves, LeavesNoMore, Nothing, Replaces, StopsAt, Syncs, Taken, TakenFirst, held, journal_effect, step_at, storage_effect, write_of, writing_steps}
+use Rattle.aegis_storage.specs.Disk.{AreParts, Change, Crashed, Disk, IsWithin, Size, Write, Writes, after, after_writes, certain, changed, changes, spoilt}
+use Rattle.aegis_storage.specs.Journal.{IsJournal, RecoversUnlessForged}
+use Rattle.aegis_storage.specs.Steps.{Changes, Does, Effect, Held, Leaves, LeavesNoMore, Nothing, Replaces, StopsAt, Syncs, Taken, held, journal_effect, step_at, storage_effect, write_of, writing_steps}
 use Rattle.aegis_storage.specs.declared.steps.Step.{Step}
 use Rattle.aegis_storage.specs.declared.steps.Step.TheVariants.{Done, EmptyJournal, MakeWrite, ReplaceJournal, SyncJournal, SyncStorage, WriteBeginning, WriteRest}
-use Rattle.aegis_storage.proofs.Disks.{after_after, crashed_more, no_more, parts_left, crashed_left, left_crashed, resized_none, settles_after, settles_certain, spoilt_crashed, stays_certain, within_after, within_both, within_crashed, within_itself, within_settles, written_again}
+use Rattle.aegis_storage.proofs.Disks.{after_after, crashed_more, no_more, parts_left, left_crashed, resized_none, settles_after, settles_certain, spoilt_crashed, stays_certain, within_after, within_both, within_crashed, within_itself, within_settles, written_again}
 use Rattle.aegis_storage.proofs.Journals.{any_journal, whole_journal}
-use Rattle.aegis_storage.proofs.Overwriting.{overwritten_end, overwritten_whole}
-use Rattle.aegis_storage.proofs.StepFacts.{ends, far, long-makes, makes, step_ended, step_making, take_ended, take_making}
+use Rattle.aegis_storage.proofs.StepFacts.{ends, far, makes, step_ended, step_making, take_ended, take_making}
 
 -- ---- one call
 

@@ -6,7 +6,10 @@ ghost use Rattle.aegis_storage.specs.Disk.{Writes, after_writes};
 ghost use Rattle.aegis_storage.specs.Journal.{IsAtRest, IsJournal, KeepsBeginning, RecoversUnlessForged, RestsAtEither};
 ghost use Rattle.aegis_storage.specs.Steps.{Held, Recoverable, StopsAt, Taken, commit_steps, held, journal_effect, recovery_steps, step_at, storage_effect};
 
-use aegis_storage::laws::{commit_ends_at_rest, commit_keeps_the_beginning, commit_recovers_at_any_step, recovery_ends_at_rest, recovery_recovers_at_any_step};
+use aegis_storage::laws::{
+    commit_ends_at_rest, commit_keeps_the_beginning, commit_recovers_at_any_step,
+    recovery_ends_at_rest, recovery_recovers_at_any_step,
+};
 use aegis_storage::{Step, commit_step, recovery_step};
 
 /// Returns the next step of a commit, of which `taken` steps were taken. If the program stops before this step or in
