@@ -53,8 +53,8 @@ archive() {
     rm -rf "$folder"/python/*/__pycache__ "$folder"/python/hunkravy/_version.py "$folder"/python/hunkravy/_native.abi3.so
     for part in "$folder" "$folder/rust" "$folder/python"; do cp LICENSE "$part"; done
     proved > "$folder/PROVED.md"
-    python3 tools/ship_pages.py "$folder" SECURITY.md CHANGELOG.md docs/SEALED-FILES.md docs/RANDOM-ACCESS.md docs/DIFFERENCES.md \
-        rust/README.md python/README.md
+    python3 tools/ship_pages.py "$folder" SECURITY.md CHANGELOG.md docs/SEALED-FILES.md docs/RANDOM-ACCESS.md docs/FORMATS.md \
+        docs/DIFFERENCES.md c/README.md rust/README.md python/README.md
     cp dist/archive.md.in "$folder/README.md"
     cp dist/VERIFY.md "$folder"
     cp bench/x86-64-v3/peers.svg "$folder/speed.svg"
