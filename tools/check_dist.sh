@@ -58,7 +58,7 @@ listed() {
     done < dist/contents.txt
 }
 for_arm() {
-    listed | awk '/^== / { is_of_tool = /hunkravy_/ } !is_of_tool && !/^bin\/|lib\/hunkravy\/|share\/(bash|fish|man|zsh)/' |
+    listed | awk '/^== / { is_of_tool = /hunkravy_/ } !is_of_tool && !/^bin\/|lib\/hunkravy\/|share\/(bash|fish|man|zsh)|backup\.sh/' |
         sed 's/x86_64/aarch64/g; s/amd64/arm64/g'
 }
 # Each line after the name of its package, in order.
