@@ -4,7 +4,6 @@
 # KEY is a key file, STORE the folder of the backups, and each PATH an absolute path outside of STORE. The newest 30 backups
 # are kept, or as many as KEEP says. The first run of a month verifies all of them. The status is 0 if all went well.
 set -euo pipefail
-umask 077
 key=$1 store=$2 keep=${KEEP:-30}
 shift 2
 today=$(date +%F)
