@@ -105,8 +105,9 @@ libraries() {
     mv "$work/libhunkravy-dev/$library"/libhunkravy.so.0* "$work/libhunkravy0/$library"
     echo "libhunkravy 0 libhunkravy0 (>= $version)" > "$work/libhunkravy0/DEBIAN/shlibs"
     echo 'activate-noawait ldconfig' > "$work/libhunkravy0/DEBIAN/triggers"
-    # The page on C, and those that the headers name.
-    python3 tools/ship_pages.py "$work/pages" c/README.md docs/RANDOM-ACCESS.md docs/FORMATS.md
+    # The page on C, which lies beside those that the headers name, and not in a folder beside theirs.
+    python3 tools/ship_pages.py "$work/pages" c/README.md
+    python3 tools/ship_pages.py "$work/pages" docs/RANDOM-ACCESS.md docs/FORMATS.md
     install -D -m 644 -t "$work/libhunkravy-dev/usr/share/doc/libhunkravy-dev" "$work"/pages/{c,docs}/*.md
     package libhunkravy0 libs 'libc6 (>= 2.17)' 'AEGIS ciphers and their MACs with a proved core' \
         'The shared library. It uses no AES instructions and no look-up tables.'
