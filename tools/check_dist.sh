@@ -58,7 +58,7 @@ listed() {
     done < dist/contents.txt
 }
 for_arm() {
-    listed | awk '/^== / { is_of_tool = /hunkravy_/ } !is_of_tool && !/^bin\/|lib\/hunkravy\/|share\/(bash|fish|man|zsh)/' |
+    listed | awk '/^== / { is_of_tool = /hunkravy_/ } !is_of_tool && !/^bin\/|lib\/hunkravy\/|share\/(bash|fish|man|zsh)|backup\.sh/' |
         sed 's/x86_64/aarch64/g; s/amd64/arm64/g'
 }
 # Each line after the name of its package, in order.
@@ -126,7 +126,7 @@ glibc 2.17 "$folder/lib/libhunkravy.so.0" "$work/site/hunkravy/_native.abi3.so"
 glibc 2.34 "$folder/lib/hunkravy/x86-64-v2/hunkravy"
 
 # The sums of the release are right, by the command of its page.
-command=$(sed -n 's/^1\. .*`\(sha256sum [^`]*\)`.*/\1/p' dist/VERIFY.md)
+command=$(sed -n 's/^2\. .*`\(sha256sum [^`]*\)`.*/\1/p' dist/VERIFY.md)
 (cd "$dist" && $command --strict --quiet && diff <(ls | sort) <((echo SHA256SUMS; cut -c 67- SHA256SUMS) | sort)) ||
     fail 'the sums are not those of the files'
 

@@ -28,7 +28,7 @@ PAGES = [page for page in sorted(ROOT.glob("**/*.md")) if not SKIPPED & set(page
 SOURCES = sorted(ROOT.glob("crates/*/src/**/*.rt"))
 HEADERS = [*sorted(ROOT.glob("c/include/*.h")), ROOT / "c/library/journal.h"]
 # The pages that have to show something in a language.
-SHOWN = {"README.md": "rs c python", "docs/RATTLE.md": "rust", "python/README.md": "python"}
+SHOWN = {"README.md": "rs c python", "c/README.md": "c", "docs/RATTLE.md": "rust", "python/README.md": "python"}
 
 CLAUSE = re.compile(r"\s*(requires|ensures)\b")
 SAMPLE = re.compile(r"^```(\w*)\n(.*?)^```$", re.M | re.S)
@@ -149,7 +149,7 @@ SPEED = (
 )
 STATED = {
     "README.md": SPEED,
-    "rust/README.md": SPEED,
+    "rust/README.md": SPEED[:1],
     "python/README.md": SPEED[:1],
     "docs/FORMATS.md": (
         "nonce: {AEGIS128_NONCE_BYTES} for AEGIS-128L, 128X2 and 128X4, and {AEGIS256_NONCE_BYTES} for AEGIS-256, 256X2",
@@ -244,6 +244,7 @@ VERSIONED = {
     "rust/Cargo.toml": 'version = "{0}"\n',
     "rust/Cargo.lock": 'name = "hunkravy"\nversion = "{0}"\n',
     "README.md": "hunkravy-{0}-x86_64-linux",
+    "c/README.md": "hunkravy-{0}-x86_64-linux",
     "rust/README.md": "hunkravy-{0}-x86_64-linux",
 }
 

@@ -53,8 +53,8 @@ archive() {
     rm -rf "$folder"/python/*/__pycache__ "$folder"/python/hunkravy/_version.py "$folder"/python/hunkravy/_native.abi3.so
     for part in "$folder" "$folder/rust" "$folder/python"; do cp LICENSE "$part"; done
     proved > "$folder/PROVED.md"
-    python3 tools/ship_pages.py "$folder" SECURITY.md CHANGELOG.md docs/SEALED-FILES.md docs/RANDOM-ACCESS.md docs/DIFFERENCES.md \
-        rust/README.md python/README.md
+    python3 tools/ship_pages.py "$folder" SECURITY.md CHANGELOG.md docs/SEALED-FILES.md docs/RANDOM-ACCESS.md docs/FORMATS.md \
+        docs/DIFFERENCES.md c/README.md rust/README.md python/README.md
     cp dist/archive.md.in "$folder/README.md"
     cp dist/VERIFY.md "$folder"
     cp bench/x86-64-v3/peers.svg "$folder/speed.svg"
@@ -105,13 +105,14 @@ libraries() {
     mv "$work/libhunkravy-dev/$library"/libhunkravy.so.0* "$work/libhunkravy0/$library"
     echo "libhunkravy 0 libhunkravy0 (>= $version)" > "$work/libhunkravy0/DEBIAN/shlibs"
     echo 'activate-noawait ldconfig' > "$work/libhunkravy0/DEBIAN/triggers"
-    # The page that hunkravy_pages.h names.
-    python3 tools/ship_pages.py "$work/pages" docs/RANDOM-ACCESS.md
-    install -D -m 644 "$work/pages/docs/RANDOM-ACCESS.md" "$work/libhunkravy-dev/usr/share/doc/libhunkravy-dev/RANDOM-ACCESS.md"
+    # The page on C, which lies beside those that the headers name, and not in a folder beside theirs.
+    python3 tools/ship_pages.py "$work/pages" c/README.md
+    python3 tools/ship_pages.py "$work/pages" docs/RANDOM-ACCESS.md docs/FORMATS.md
+    install -D -m 644 -t "$work/libhunkravy-dev/usr/share/doc/libhunkravy-dev" "$work"/pages/{c,docs}/*.md
     package libhunkravy0 libs 'libc6 (>= 2.17)' 'AEGIS ciphers and their MACs with a proved core' \
         'The shared library. It uses no AES instructions and no look-up tables.'
     package libhunkravy-dev libdevel "libhunkravy0 (= $version)" 'AEGIS ciphers and their MACs, for development' \
-        'Headers, the static library, examples, and the page on random-access files.'
+        'Headers, the static library, examples, and pages on C and on random-access files.'
 }
 
 archive x86_64

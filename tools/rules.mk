@@ -22,8 +22,8 @@ START_FLAGS = -std=gnu11 -Wall -Wextra -Os -ffreestanding -fno-tree-loop-distrib
 $(OUT)/start: dist/start.c c/levels/level.h tools/rules.mk | $(OUT)
 	$(CC) $(START_FLAGS) $< -o $@
 
-# Installs the program hunkravy, its manual page, and completions for shells. The program is a link to the build for the
-# level, or, if there are two, the one that starts the better one.
+# Installs the program hunkravy, its manual page, the example of a backup, and completions for shells. The program is a link to
+# the build for the level, or, if there are two, the one that starts the better one.
 ZSH_COMPLETIONS = $(PREFIX)/share/zsh/site-functions
 
 install-tool: $(TOOL_LEVELS:%=$(OUT)/%/hunkravy) $(if $(filter 2,$(words $(TOOL_LEVELS))),$(OUT)/start)
@@ -37,6 +37,7 @@ install-tool: $(TOOL_LEVELS:%=$(OUT)/%/hunkravy) $(if $(filter 2,$(words $(TOOL_
 		rm "$(DESTDIR)$(PREFIX)/bin/hunkravy" && install -m 755 $(OUT)/start "$(DESTDIR)$(PREFIX)/bin/hunkravy"; \
 	fi
 	install -D -m 644 $(TOOL_PAGES)/man "$(DESTDIR)$(PREFIX)/share/man/man1/hunkravy.1"
+	install -D -m 644 dist/examples/backup.sh "$(DESTDIR)$(EXAMPLES_FOLDER)/backup.sh"
 	install -D -m 644 $(TOOL_PAGES)/bash "$(DESTDIR)$(PREFIX)/share/bash-completion/completions/hunkravy"
 	install -D -m 644 $(TOOL_PAGES)/zsh "$(DESTDIR)$(ZSH_COMPLETIONS)/_hunkravy"
 	install -D -m 644 $(TOOL_PAGES)/fish "$(DESTDIR)$(PREFIX)/share/fish/vendor_completions.d/hunkravy.fish"

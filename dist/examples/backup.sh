@@ -1,0 +1,34 @@
+#!/bin/bash
+# Makes today's sealed backup of files and folders: backup.sh KEY STORE PATH..
+#
+# KEY is a key file, STORE the folder of the backups, and each PATH an absolute path outside of STORE. The newest 30 backups
+# are kept, or as many as KEEP says. The first run of a month verifies all of them. The status is 0 if all went well.
+set -euo pipefail
+key=$1 store=$2 keep=${KEEP:-30}
+shift 2
+today=$(date +%F)
+part=$store/backup.part
+
+# One run at a time. What a run left that was killed is removed.
+exec 9> "$store/backup.lock"
+flock -n 9 || { echo "backup.sh: another run uses $store" >&2; exit 1; }
+rm -f "$part" "$store"/.backup.part.hunkravy-*
+
+# tar ends with status 1 if a file changed while it was read: that is a backup. With any other failure there is none.
+archive() {
+    tar -C / -c -- "${@#/}" || [ $? = 1 ]
+}
+archive "$@" | hunkravy seal -q -k "$key" - "$part" || { rm -f "$part"; echo 'backup.sh: no backup today' >&2; exit 1; }
+mv "$part" "$store/backup-$today.sealed"
+sync "$store"
+
+backups=("$store"/backup-????-??-??.sealed)
+extra=$((${#backups[@]} - keep))
+if [ "$extra" -gt 0 ] && [ "$keep" -gt 0 ]; then rm "${backups[@]:0:extra}"; fi
+
+month=("$store/backup-${today%-*}"-??.sealed)
+result=0
+if [ "${#month[@]}" = 1 ]; then
+    for backup in "$store"/backup-????-??-??.sealed; do hunkravy check -q -k "$key" "$backup" || result=1; done
+fi
+exit "$result"
