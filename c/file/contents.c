@@ -334,6 +334,9 @@ int hunkravy_file_write(hunkravy_file *file, uint64_t offset, const void *data, 
 {
     int code;
     TRY(hunkravy_file_check(file));
+    if (data == NULL && datalen != 0) {
+        return EINVAL;
+    }
     code = make_change(file, offset, data, datalen);
     if (code != HUNKRAVY_OK) {
         return file->failure = code;
@@ -409,8 +412,9 @@ void hunkravy_file_undo(hunkravy_file *file, uint64_t number)
     while (is_open(file, number)) {
         struct batch *batch = file->batch;
         hunkravy_file_drop_pages(file, batch->number, 1);
-        for (struct page *page = batch->saved, *next; page != NULL; page = next) {
-            next = page->next;
+        /* A page leaves one list before it enters another, since a process that is forked here may free both. */
+        for (struct page *page = batch->saved; page != NULL; page = batch->saved) {
+            batch->saved = page->next;
             add_page(file, page);
         }
         file->size = batch->size;

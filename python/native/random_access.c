@@ -132,12 +132,16 @@ static bool begin_change(File *self)
     return false;
 }
 
-/* Makes a call of the library without the interpreter's lock, and releases that of the file before taking it again. */
+/*
+ * Makes a call of the library on the file `called` without the interpreter's lock, and releases that of the file before
+ * taking it again.
+ */
 #define CALL(self, code, page, call) \
     do { \
+        hunkravy_file *called = (self)->file; \
         PyThreadState *released = PyEval_SaveThread(); \
         (code) = (call); \
-        (page) = hunkravy_file_damaged_page((self)->file); \
+        (page) = hunkravy_file_damaged_page(called); \
         PyThread_release_lock((self)->lock); \
         PyEval_RestoreThread(released); \
     } while (0)
@@ -157,8 +161,8 @@ static bool begin_change(File *self)
         return result_of(code, page, NULL, Py_NewRef(Py_None)); \
     }
 
-METHOD(file_commit, begin_change, hunkravy_file_commit(self->file))
-METHOD(file_discard, begin, (hunkravy_file_discard(self->file), HUNKRAVY_OK))
+METHOD(file_commit, begin_change, hunkravy_file_commit(called))
+METHOD(file_discard, begin, (hunkravy_file_discard(called), HUNKRAVY_OK))
 
 /* ---- Opening and closing */
 
@@ -205,9 +209,16 @@ static int open_in(File *self, PyObject *given, PyObject *named, bool is_new)
         code = is_new ? hunkravy_file_create(&file, name, variant, key.buf, (size_t)key.len, (uint32_t)page_size)
                       : hunkravy_file_open(&file, name, variant, key.buf, (size_t)key.len);
         PyEval_RestoreThread(released);
-        self->file = file;
-        self->thread = checks ? PyThread_get_thread_ident() : 0;
-        (void)result_of(code, 0, path, NULL);
+        if (code == HUNKRAVY_OK && self->file != NULL) {
+            /* Another thread has called `__init__` of this object too. */
+            (void)!hunkravy_file_close(file);
+            PyErr_SetString(PyExc_RuntimeError, "the file is open already");
+        } else if (code == HUNKRAVY_OK) {
+            self->file = file;
+            self->thread = checks ? PyThread_get_thread_ident() : 0;
+        } else {
+            (void)result_of(code, 0, path, NULL);
+        }
     }
     PyBuffer_Release(&key);
     Py_DECREF(path);
@@ -235,31 +246,33 @@ static PyObject *file_create(PyObject *type, PyObject *given, PyObject *named)
     return object;
 }
 
-/* Closes the file, after a commit if `commits`. That a file is broken was raised before. */
+/*
+ * Closes the file, after a commit if `commits`. In a forked process nobody can wait for the lock of a file: a thread of the
+ * other process may have it for ever, and what that was doing is half done here. Then the memory is left as it is.
+ */
 static PyObject *close_file(File *self, bool commits)
 {
-    hunkravy_file *file = self->file;
-    if (file == NULL) {
+    bool is_here = self->file != NULL && hunkravy_file_check(self->file) != HUNKRAVY_FILE_LOCKED;
+    if (self->file == NULL) {
         Py_RETURN_NONE;
     }
-    /* In another process than that of the file nobody can wait for its lock. */
-    bool is_here = hunkravy_file_check(file) != HUNKRAVY_FILE_LOCKED;
     if (is_here && !begin(self)) {
         return NULL;
     }
+    if (!is_here && !PyThread_acquire_lock(self->lock, NOWAIT_LOCK)) {
+        self->file = NULL;
+        Py_RETURN_NONE;
+    }
     /* What other threads find is not freed. */
-    file = self->file;
+    hunkravy_file *file = self->file;
     self->file = NULL;
     PyThreadState *released = PyEval_SaveThread();
     int code = is_here && commits ? hunkravy_file_commit(file) : HUNKRAVY_OK;
     uint64_t page = hunkravy_file_damaged_page(file);
     int closed = hunkravy_file_close(file);
-    if (is_here) {
-        PyThread_release_lock(self->lock);
-    }
+    PyThread_release_lock(self->lock);
     PyEval_RestoreThread(released);
-    code = code == HUNKRAVY_OK ? closed : code;
-    return result_of(code == HUNKRAVY_FILE_BROKEN ? HUNKRAVY_OK : code, page, NULL, Py_NewRef(Py_None));
+    return result_of(code == HUNKRAVY_OK ? closed : code, page, NULL, Py_NewRef(Py_None));
 }
 
 static PyObject *file_close(PyObject *object, PyObject *none)
@@ -268,16 +281,17 @@ static PyObject *file_close(PyObject *object, PyObject *none)
     return close_file((File *)object, false);
 }
 
-/* A file that is dropped without `close` loses its changes. */
+/* A file that is dropped without `close` loses its changes. One that a thread of another process was using is left. */
 static void file_free(PyObject *object)
 {
     File *self = (File *)object;
     PyTypeObject *type = Py_TYPE(object);
-    if (self->file != NULL) {
-        hunkravy_file_discard(self->file);
-        (void)!hunkravy_file_close(self->file);
-    }
-    if (self->lock != NULL) {
+    if (self->lock != NULL && PyThread_acquire_lock(self->lock, NOWAIT_LOCK)) {
+        if (self->file != NULL) {
+            hunkravy_file_discard(self->file);
+            (void)!hunkravy_file_close(self->file);
+        }
+        PyThread_release_lock(self->lock);
         PyThread_free_lock(self->lock);
     }
     freefunc release = __extension__(freefunc) PyType_GetSlot(type, Py_tp_free);
@@ -312,7 +326,13 @@ static PyObject *file_exit(PyObject *object, PyObject *given)
         return NULL;
     }
     Py_DECREF(result);
-    return close_file((File *)object, !failed);
+    result = close_file((File *)object, !failed);
+    if (result == NULL && failed > 0) {
+        /* The exception of the block goes on: that the file is broken is not news. */
+        PyErr_Clear();
+        Py_RETURN_NONE;
+    }
+    return result;
 }
 
 /* ---- The contents */
@@ -334,7 +354,7 @@ static PyObject *file_read_at(PyObject *object, PyObject *given)
         PyThread_release_lock(self->lock);
         return NULL;
     }
-    CALL(self, code, page, hunkravy_file_read(self->file, offset, out, (size_t)length, &found));
+    CALL(self, code, page, hunkravy_file_read(called, offset, out, (size_t)length, &found));
     return result_of(code, page, NULL, result);
 }
 
@@ -350,7 +370,7 @@ static PyObject *file_read_into(PyObject *object, PyObject *given)
         return NULL;
     }
     if (begin(self)) {
-        CALL(self, code, page, hunkravy_file_read(self->file, offset, buffer.buf, (size_t)buffer.len, &found));
+        CALL(self, code, page, hunkravy_file_read(called, offset, buffer.buf, (size_t)buffer.len, &found));
         (void)result_of(code, page, NULL, NULL);
     }
     PyBuffer_Release(&buffer);
@@ -369,7 +389,7 @@ static PyObject *file_write_at(PyObject *object, PyObject *given)
     }
     length = (size_t)data.len;
     if (begin_change(self)) {
-        CALL(self, code, page, hunkravy_file_write(self->file, offset, data.buf, length));
+        CALL(self, code, page, hunkravy_file_write(called, offset, data.buf, length));
         (void)result_of(code, page, NULL, NULL);
     }
     PyBuffer_Release(&data);
@@ -384,7 +404,7 @@ static PyObject *file_truncate(PyObject *object, PyObject *given)
     if (!natural(given, &size) || !begin_change(self)) {
         return NULL;
     }
-    CALL(self, code, page, hunkravy_file_truncate(self->file, size));
+    CALL(self, code, page, hunkravy_file_truncate(called, size));
     return result_of(code, page, NULL, PyLong_FromUnsignedLongLong(size));
 }
 
@@ -395,9 +415,10 @@ static PyObject *file_size(PyObject *object, void *closure)
     if (!begin(self)) {
         return NULL;
     }
+    int code = hunkravy_file_check(self->file);
     uint64_t size = hunkravy_file_size(self->file);
     PyThread_release_lock(self->lock);
-    return PyLong_FromUnsignedLongLong(size);
+    return result_of(code, 0, NULL, PyLong_FromUnsignedLongLong(size));
 }
 
 static PyObject *file_closed(PyObject *object, void *closure)
@@ -408,9 +429,14 @@ static PyObject *file_closed(PyObject *object, void *closure)
 
 static PyObject *file_is_in_batch(PyObject *object, void *closure)
 {
+    File *self = (File *)object;
     (void)closure;
-    const hunkravy_file *file = ((File *)object)->file;
-    return PyBool_FromLong(file != NULL && hunkravy_file_open_batches(file) != 0);
+    if (!begin(self)) {
+        return NULL;
+    }
+    bool is_open = hunkravy_file_open_batches(self->file) != 0;
+    PyThread_release_lock(self->lock);
+    return PyBool_FromLong(is_open);
 }
 
 /* ---- Batches */
@@ -421,11 +447,23 @@ typedef struct {
     uint64_t number;
 } Batch;
 
+/* Whether an object is a file, of the type beside that of batches. Less than 0 is an error. */
+static int is_file(PyTypeObject *type_of_batches, PyObject *object)
+{
+    PyObject *type = PyObject_GetAttrString(PyType_GetModule(type_of_batches), "RandomAccessFile");
+    int is = type == NULL ? -1 : PyObject_IsInstance(object, type);
+    Py_XDECREF(type);
+    if (is == 0) {
+        PyErr_SetString(PyExc_TypeError, "a batch is one of a RandomAccessFile");
+    }
+    return is;
+}
+
 static PyObject *batch_new(PyTypeObject *type, PyObject *given, PyObject *named)
 {
     PyObject *file;
     (void)named;
-    if (!PyArg_ParseTuple(given, "O", &file)) {
+    if (!PyArg_ParseTuple(given, "O", &file) || is_file(type, file) != 1) {
         return NULL;
     }
     Batch *self = (Batch *)PyType_GenericAlloc(type, 0);
@@ -445,6 +483,11 @@ static PyObject *batch_enter(PyObject *object, PyObject *none)
     }
     if (!begin_change(file)) {
         return NULL;
+    }
+    if (self->number != 0) {
+        /* Another thread has begun it meanwhile. */
+        PyThread_release_lock(file->lock);
+        return PyErr_SetString(PyExc_RuntimeError, "this batch has begun"), NULL;
     }
     int code = hunkravy_file_begin(file->file, &self->number);
     file->blocks += code == HUNKRAVY_OK;
@@ -477,7 +520,7 @@ static PyObject *batch_exit(PyObject *object, PyObject *given)
     }
     leave_block(self);
     CALL(file, code, page,
-        failed ? (hunkravy_file_undo(file->file, number), HUNKRAVY_OK) : hunkravy_file_end(file->file, number));
+        failed ? (hunkravy_file_undo(called, number), HUNKRAVY_OK) : hunkravy_file_end(called, number));
     return result_of(code, page, NULL, Py_NewRef(Py_None));
 }
 

@@ -120,7 +120,7 @@ class Files(unittest.TestCase):
         with limited(65_536):
             self.assertRaises(OSError, file.commit)
         self.assertCause("broken", file.write_at, 0, b"lost")
-        file.close()
+        self.assertCause("broken", file.close)
 
     def assertCause(self, cause: Any, call: Any, *arguments: Any, **named: Any) -> None:
         with self.assertRaises(RandomAccessError) as raised:
@@ -316,6 +316,61 @@ class Files(unittest.TestCase):
         forked.set()
         thread.join()
         file.close()
+
+    def test_forks_while_another_thread_undoes(self) -> None:
+        def undo() -> None:
+            while not done.is_set():
+                with contextlib.suppress(KeyError), file.batch():
+                    file.write_at(0, bytes(1 << 20))
+                    raise KeyError
+
+        def read() -> None:
+            while True:
+                with contextlib.suppress(ValueError):
+                    file.read_at(0, 100)
+
+        done = threading.Event()
+        file = RandomAccessFile.create(self.path, KEY, check_same_thread=False, page_size=PAGE)
+        file.write_at(0, bytes(1 << 20))
+        thread = threading.Thread(target=undo)
+        thread.start()
+        for turn in range(40):
+            child = os.fork()
+            if child == 0:
+                threading.Thread(target=read, daemon=True).start()
+                file.close()
+                os._exit(0)
+            self.assertEqual(os.waitpid(child, 0)[1], 0)
+        done.set()
+        thread.join()
+        file.close()
+
+    def test_several_threads_in_one_object(self) -> None:
+        def flush() -> None:
+            while not done.is_set():
+                with contextlib.suppress(RuntimeError):
+                    stream.flush()
+
+        def enter(batch: Any) -> bool:
+            try:
+                batch.__enter__()
+            except RuntimeError:
+                return False
+            return True
+
+        done = threading.Event()
+        with RandomAccessFile.create(self.path, KEY, check_same_thread=False) as file:
+            stream = file.open_stream()
+            with concurrent.futures.ThreadPoolExecutor() as threads:
+                flushed = threads.submit(flush)
+                for turn in range(300):
+                    batch = file.batch()
+                    self.assertEqual(sorted(threads.map(enter, [batch] * 2)), [False, True])
+                    file.discard()
+                    self.assertRaises(RuntimeError, batch.__exit__, None, None, None)
+                done.set()
+                flushed.result()
+            self.assertRaisesRegex(TypeError, "batch", type(batch), b"no file" * 10)
 
     def test_a_batch_that_ends_after_one_that_failed(self) -> None:
         def change(place: int) -> Generator[None, None, None]:
