@@ -111,4 +111,4 @@ check-pages:
 $(OUT):
 	mkdir -p $@
 
-include c/rules.mk tools/rules.mk rust/rules.mk python/rules.mk bench/rules.mk dist/rules.mk
+include c/rules.mk tools/rules.mk rust/rules.mk python/rules.mk bench/rules.mk dist/rules.mk testkit/rules.mk
