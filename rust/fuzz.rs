@@ -40,10 +40,7 @@ fn changed(original: &[u8], input: &[u8]) -> Vec<u8> {
             0 => bytes.truncate(place),
             1 => bytes.insert(place, byte),
             2 if length < 1 << 20 => bytes.extend_from_within(place..),
-            _ => bytes[place..]
-                .iter_mut()
-                .take(1)
-                .for_each(|old| *old = byte),
+            _ => bytes[place..].iter_mut().take(1).for_each(|old| *old = byte),
         }
     }
     bytes

@@ -14,7 +14,8 @@ check-rust-both: $(OUT)/both/libhunkravy.a check-raf-c
 	$(call CARGO,both) test --offline
 	if cargo clippy --version > /dev/null 2>&1 && cargo fmt --version > /dev/null 2>&1; then \
 		$(call CARGO,both) clippy --offline --all-targets -- -D warnings && \
-		cargo fmt --check && cd ../bench/package && cargo fmt --check && rustfmt --check --edition 2024 ../../standin/lib.rs ../../rust/fuzz.rs; \
+		cargo fmt --check && cd ../bench/package && cargo fmt --check && \
+		rustfmt --check --edition 2024 ../../standin/lib.rs ../../rust/fuzz.rs ../../testkit/disk/program.rs; \
 	else \
 		echo 'left out: the lints and the layout of the Cargo package, since cargo clippy or fmt is not installed'; \
 	fi

@@ -61,14 +61,7 @@ pub fn check_tag(bytes: usize) -> Answer {
 }
 
 /// Checks all lengths of a message.
-pub fn check_lengths(
-    variant: u32,
-    nonce: usize,
-    key: usize,
-    message: usize,
-    data: usize,
-    tag: usize,
-) -> Answer {
+pub fn check_lengths(variant: u32, nonce: usize, key: usize, message: usize, data: usize, tag: usize) -> Answer {
     check_keys(variant, nonce, key)?;
     check(message as u64 <= MAX_BYTES, MESSAGE_TOO_LONG)?;
     check(data as u64 <= MAX_BYTES, DATA_TOO_LONG)?;

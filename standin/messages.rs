@@ -1,10 +1,7 @@
 //! The exports on messages, keystreams and MACs.
 
 use crate::aegis::Aegis;
-use crate::code::{
-    Answer, INVALID_TAG, WRONG_MESSAGE_LENGTH, check, check_keys, check_lengths, check_tag,
-    key_bytes,
-};
+use crate::code::{Answer, INVALID_TAG, WRONG_MESSAGE_LENGTH, check, check_keys, check_lengths, check_tag, key_bytes};
 use crate::message::{ENDED, Role, State, decrypt, encrypt};
 use crate::slices::{In, Out, exports, input, output};
 

@@ -1,8 +1,6 @@
 //! The exports on the pages and headers of random-access files.
 
-use crate::code::{
-    Answer, FILE_TOO_LONG, INVALID_TAG, WRONG_PAGE_SIZE, check, check_key, check_keys, key_bytes,
-};
+use crate::code::{Answer, FILE_TOO_LONG, INVALID_TAG, WRONG_PAGE_SIZE, check, check_key, check_keys, key_bytes};
 use crate::message::{decrypt, encrypt};
 use crate::slices::{In, Out, exports, input, output};
 

@@ -64,9 +64,7 @@ fn column(columns: [u32; 4]) -> u32 {
 impl Block {
     /// The block of sixteen bytes.
     pub fn load(bytes: &[u8; 16]) -> Self {
-        Block(core::array::from_fn(|at| {
-            u32::from_le_bytes(*bytes[4 * at..].first_chunk().unwrap())
-        }))
+        Block(core::array::from_fn(|at| u32::from_le_bytes(*bytes[4 * at..].first_chunk().unwrap())))
     }
 
     /// Writes its sixteen bytes.

@@ -10,13 +10,7 @@ fn seal(key: &Key, nonce: &Nonce, header: &[u8], message: &mut [u8]) -> Tag<32> 
 }
 
 /// Turns a ciphertext into its message. One that is rejected is erased.
-fn open(
-    key: &Key,
-    nonce: &Nonce,
-    header: &[u8],
-    ciphertext: &mut [u8],
-    tag: &Tag<32>,
-) -> Result<(), Error> {
+fn open(key: &Key, nonce: &Nonce, header: &[u8], ciphertext: &mut [u8], tag: &Tag<32>) -> Result<(), Error> {
     Aegis256::new(key, nonce).decrypt_in_place(ciphertext, tag, header)
 }
 

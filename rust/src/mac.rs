@@ -43,10 +43,7 @@ impl<V: Variant, const TAG_BYTES: usize> Mac<V, TAG_BYTES> {
         let mut state = State::ENDED;
         let (nonce, key) = (nonce.as_ref(), key.as_ref());
         done(exports::mac_init(V::NUMBER, &mut state, nonce, key));
-        Self {
-            state,
-            variant: PhantomData,
-        }
+        Self { state, variant: PhantomData }
     }
 
     /// Adds the next chunk of the input.
@@ -94,10 +91,7 @@ impl<V: Variant, const TAG_BYTES: usize> Mac<V, TAG_BYTES> {
 
 impl<V: Variant, const TAG_BYTES: usize> Clone for Mac<V, TAG_BYTES> {
     fn clone(&self) -> Self {
-        Self {
-            state: self.state.clone(),
-            variant: PhantomData,
-        }
+        Self { state: self.state.clone(), variant: PhantomData }
     }
 }
 

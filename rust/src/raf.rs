@@ -242,10 +242,7 @@ impl<A: Algorithm, I: RafIo, R: RafRng, J: RafIo> Raf<A, I, R, J> {
 
     /// Returns a cursor at the start of the contents, which is `Read`, `Write` and `Seek`.
     pub fn cursor(&mut self) -> RafCursor<'_, A, I, R, J> {
-        RafCursor {
-            file: self,
-            offset: 0,
-        }
+        RafCursor { file: self, offset: 0 }
     }
 
     /// Returns the commitment of the file at the last commit: a MAC, under the key, of the counter and the size in its header and
@@ -274,8 +271,6 @@ impl<A: Algorithm, I: RafIo, R: RafRng, J: RafIo> Raf<A, I, R, J> {
 
 impl<A: Algorithm, I: RafIo, R: RafRng, J: RafIo> fmt::Debug for Raf<A, I, R, J> {
     fn fmt(&self, f: &mut fmt::Formatter<'_>) -> fmt::Result {
-        f.debug_struct("Raf")
-            .field("size", &self.size())
-            .finish_non_exhaustive()
+        f.debug_struct("Raf").field("size", &self.size()).finish_non_exhaustive()
     }
 }

@@ -67,13 +67,9 @@ impl Script {
     fn finds(&self, variables: &[(&str, &Path)], folder: Option<&Path>) {
         let printed = self.run(variables);
         let has = |line: &str| printed.iter().any(|text| text.starts_with(line));
-        for variable in [
-            "HUNKRAVY_LIB_DIR",
-            "PKG_CONFIG",
-            "PKG_CONFIG_PATH",
-            "PKG_CONFIG_LIBDIR",
-            "PKG_CONFIG_SYSROOT_DIR",
-        ] {
+        for variable in
+            ["HUNKRAVY_LIB_DIR", "PKG_CONFIG", "PKG_CONFIG_PATH", "PKG_CONFIG_LIBDIR", "PKG_CONFIG_SYSROOT_DIR"]
+        {
             let line = format!("cargo::rerun-if-env-changed={variable}");
             assert!(printed.contains(&line), "{printed:?}");
         }
@@ -133,17 +129,9 @@ fn the_library_of_another_processor() {
     let script = Script::new("another-processor");
     for (target, machine, error) in [
         ("x86_64-unknown-linux-gnu", X86_64, None),
-        (
-            "x86_64-unknown-linux-musl",
-            AARCH64,
-            Some("is not for x86_64"),
-        ),
+        ("x86_64-unknown-linux-musl", AARCH64, Some("is not for x86_64")),
         ("x86_64-unknown-linux-gnu", 0, Some("is not for x86_64")),
-        (
-            "aarch64-unknown-linux-gnu",
-            X86_64,
-            Some("is not for aarch64"),
-        ),
+        ("aarch64-unknown-linux-gnu", X86_64, Some("is not for aarch64")),
         ("aarch64-unknown-linux-musl", AARCH64, None),
         ("x86_64-apple-darwin", X86_64, Some("cargo::error=")),
     ] {
@@ -230,9 +218,7 @@ fn drops_overwrite() {
             line.ends_with(':') && ["exports", state, "drop"].into_iter().all(is_of)
         };
         let mut drops = functions.iter().filter(|text| text.lines().any(is_drop));
-        let drop = drops
-            .next()
-            .unwrap_or_else(|| panic!("{state} is not dropped"));
+        let drop = drops.next().unwrap_or_else(|| panic!("{state} is not dropped"));
         assert!(drop.contains("hunkravy_wipe"), "{drop}");
     }
 }

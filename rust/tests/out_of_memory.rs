@@ -231,10 +231,7 @@ fn record_streams() {
     let make = || Opener::new(&KEY, &[1; 24], b"context", &sealer.header()).unwrap();
     let open = |opener: &mut Opener<'_>| Ok(opener.open_next(&stream).map(drop)?);
     assert_eq!(each_failure(make, open, |opener| !opener.has_ended()), 1);
-    assert_eq!(
-        io::Error::from(records::Error::OutOfMemory).kind(),
-        ErrorKind::OutOfMemory
-    );
+    assert_eq!(io::Error::from(records::Error::OutOfMemory).kind(), ErrorKind::OutOfMemory);
 }
 
 #[test]

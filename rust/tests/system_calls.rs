@@ -51,10 +51,7 @@ trait Named {
 
 impl Named for c_int {
     fn log(self, call: &str) -> bool {
-        log(
-            call,
-            &fs::read_link(format!("/proc/self/fd/{self}")).unwrap(),
-        )
+        log(call, &fs::read_link(format!("/proc/self/fd/{self}")).unwrap())
     }
 }
 
@@ -184,9 +181,7 @@ fn each_call_of_the_system_that_fails() {
         is_error(failed, outcome(result));
     });
     fs::write(folder.file(), &bytes).unwrap();
-    let journal = cut_short(&(bytes.clone(), Vec::new()), b"after!", 0, JOURNAL_CALLS)
-        .bytes()
-        .1;
+    let journal = cut_short(&(bytes.clone(), Vec::new()), b"after!", 0, JOURNAL_CALLS).bytes().1;
     for (journal, text) in [(journal, b"after!"), (Vec::new(), b"before")] {
         let recover = || {
             fs::write(folder.file(), &bytes).unwrap();

@@ -33,10 +33,7 @@ fn tool(name: &str) -> Option<Tool> {
     let folder = Path::new(env!("CARGO_TARGET_TMPDIR")).join(format!("tool-{name}"));
     let _ = fs::remove_dir_all(&folder);
     fs::create_dir_all(&folder).unwrap();
-    Some(Tool {
-        program: program.expect("HUNKRAVY_TOOL is the path of the program"),
-        folder,
-    })
+    Some(Tool { program: program.expect("HUNKRAVY_TOOL is the path of the program"), folder })
 }
 
 impl Tool {
@@ -130,11 +127,7 @@ fn damaged_files() {
         let mut contents = Vec::new();
         let fault = reader.read_to_end(&mut contents).err();
         let (fault, name) = (fault.as_ref().map(fault_of), damaged.name);
-        assert_eq!(
-            (fault, &output.stdout),
-            (damaged.cause, &contents),
-            "{name}"
-        );
+        assert_eq!((fault, &output.stdout), (damaged.cause, &contents), "{name}");
         let status = i32::from(damaged.cause.is_some());
         assert_eq!(output.status.code(), Some(status), "{name} {output:?}");
     }
@@ -146,16 +139,9 @@ fn key_files() {
     let Some(tool) = tool("keys") else { return };
     fs::write(tool.path("in"), "contents").unwrap();
     let digits = "00fF1aA2".repeat(8);
-    let texts = [
-        "", "\n", "\r\n", " ", "\n\n\n", "\u{85}", "\u{a0}", "\u{2028}", "0", "\0", "\n0",
-    ];
+    let texts = ["", "\n", "\r\n", " ", "\n\n\n", "\u{85}", "\u{a0}", "\u{2028}", "0", "\0", "\n0"];
     let ends = texts.map(|end| format!("{digits}{end}"));
-    let others = [
-        String::new(),
-        digits[1..].to_owned(),
-        format!(" {digits}"),
-        digits.replace('1', "g"),
-    ];
+    let others = [String::new(), digits[1..].to_owned(), format!(" {digits}"), digits.replace('1', "g")];
     for text in ends.iter().chain(&others) {
         fs::write(tool.path("key"), text).unwrap();
         let output = tool.run(&["seal", "-q", "-k", "key", "in", "-"]);

@@ -31,12 +31,7 @@ pub fn read_key(path: impl AsRef<Path>) -> io::Result<Key> {
     let mut bytes = Wiped(with_room(4096)?);
     let mut file = File::open(path)?.take(MOST_BYTES as u64 + 1);
     file.read_to_end(&mut bytes.0)?;
-    let no_key = || {
-        io::Error::new(
-            ErrorKind::InvalidData,
-            "not a key file: expected 64 hexadecimal digits",
-        )
-    };
+    let no_key = || io::Error::new(ErrorKind::InvalidData, "not a key file: expected 64 hexadecimal digits");
     key_of(&bytes.0).ok_or_else(no_key)
 }
 

@@ -156,17 +156,8 @@ pub struct SealedChanges<'c, A: Algorithm> {
 
 impl<'c, A: Algorithm> SealedChanges<'c, A> {
     /// Seals each page with one of these nonces. `numbers` are those of all changes.
-    pub fn new(
-        layout: &'c Layout<A>,
-        changes: &'c mut Changes,
-        numbers: &'c [u64],
-        nonces: &[A::Nonce],
-    ) -> Self {
-        let mut sealed = SealedChanges {
-            layout,
-            changes,
-            numbers: &[],
-        };
+    pub fn new(layout: &'c Layout<A>, changes: &'c mut Changes, numbers: &'c [u64], nonces: &[A::Nonce]) -> Self {
+        let mut sealed = SealedChanges { layout, changes, numbers: &[] };
         for (at, (number, nonce)) in numbers.iter().zip(nonces).enumerate() {
             if let Some(page) = sealed.changes.get_mut(*number) {
                 layout.seal(*number, nonce, &mut page.0);
@@ -179,10 +170,7 @@ impl<'c, A: Algorithm> SealedChanges<'c, A> {
     /// Returns the writes of the pages, the lowest first.
     pub fn writes(&self) -> impl Iterator<Item = PendingWrite<'_>> {
         self.numbers.iter().filter_map(|number| {
-            Some(PendingWrite {
-                place: self.layout.page_place(*number),
-                bytes: &self.changes.get(*number)?.0,
-            })
+            Some(PendingWrite { place: self.layout.page_place(*number), bytes: &self.changes.get(*number)?.0 })
         })
     }
 

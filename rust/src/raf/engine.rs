@@ -64,12 +64,7 @@ pub fn draw<A: Algorithm>(rng: &mut impl RafRng, chunk_size: u32) -> Result<Draw
 }
 
 impl<A: Algorithm, I: RafIo, R: RafRng, J: RafIo> Engine<A, I, R, J> {
-    pub fn create(
-        mut io: I,
-        key: &A::Key,
-        mut builder: RafBuilder<A, R, J>,
-        (id, nonce): Draws<A>,
-    ) -> Result<Self> {
+    pub fn create(mut io: I, key: &A::Key, mut builder: RafBuilder<A, R, J>, (id, nonce): Draws<A>) -> Result<Self> {
         io.lock()?;
         builder.journal.lock()?;
         if builder.journal.get_size()? != 0 {
@@ -79,11 +74,7 @@ impl<A: Algorithm, I: RafIo, R: RafRng, J: RafIo> Engine<A, I, R, J> {
         if !is_empty && !builder.truncate {
             return Err(Error::Io(ErrorKind::AlreadyExists.into()));
         }
-        let header = PageHeader {
-            page_size: builder.chunk_size,
-            id,
-            ..PageHeader::default()
-        };
+        let header = PageHeader { page_size: builder.chunk_size, id, ..PageHeader::default() };
         let mut file = Self::over(io, key, builder, &header)?;
         // Also if it is empty: after a sync that failed the disk may have its old bytes.
         file.journal.set_size(0)?;
@@ -109,12 +100,7 @@ impl<A: Algorithm, I: RafIo, R: RafRng, J: RafIo> Engine<A, I, R, J> {
     }
 
     /// The open file that has this header.
-    fn over(
-        io: I,
-        key: &A::Key,
-        builder: RafBuilder<A, R, J>,
-        header: &PageHeader,
-    ) -> Result<Self> {
+    fn over(io: I, key: &A::Key, builder: RafBuilder<A, R, J>, header: &PageHeader) -> Result<Self> {
         let layout = Layout::of(key, header);
         Ok(Engine {
             io,
@@ -191,10 +177,7 @@ impl<A: Algorithm, I: RafIo, R: RafRng, J: RafIo> Engine<A, I, R, J> {
     /// Makes the change of a write, in memory.
     fn change(&mut self, data: &[u8], offset: u64) -> Result<()> {
         self.check()?;
-        let end = offset
-            .checked_add(data.len() as u64)
-            .filter(|end| *end <= MAX_SIZE)
-            .ok_or(Error::TooLong)?;
+        let end = offset.checked_add(data.len() as u64).filter(|end| *end <= MAX_SIZE).ok_or(Error::TooLong)?;
         if data.is_empty() && offset <= self.size {
             return Ok(());
         }
@@ -338,11 +321,7 @@ impl<A: Algorithm, I: RafIo, R: RafRng, J: RafIo> Engine<A, I, R, J> {
     /// Begins a batch, and returns the state before it.
     pub fn begin_batch(&mut self) -> Result<Savepoint> {
         self.check()?;
-        Ok(Savepoint {
-            depth: self.changes.begin_batch()?,
-            size: self.size,
-            failure: self.failure.take(),
-        })
+        Ok(Savepoint { depth: self.changes.begin_batch()?, size: self.size, failure: self.failure.take() })
     }
 
     /// Commits the changes of a batch, or leaves them to the outer one. After an error it is to be undone.
@@ -478,10 +457,7 @@ mod tests {
 
     /// Opens a file that has its header alone: after so many commits, and with contents of this length.
     fn file(Paths(path, _): &Paths, counter: u64, size: u64) -> File {
-        let header = PageHeader {
-            page_size: 256,
-            ..PageHeader::default()
-        };
+        let header = PageHeader { page_size: 256, ..PageHeader::default() };
         let layout = Layout::<Aegis256>::of(&[7; 32], &header);
         std::fs::write(path, layout.header(counter, size, &[1; 32])).unwrap();
         let builder = RafBuilder::new().journal(NoJournal);

@@ -396,11 +396,7 @@ impl JournalFile {
     }
 
     fn at(path: Option<PathBuf>) -> Self {
-        JournalFile {
-            path,
-            file: None,
-            is_name_synced: false,
-        }
+        JournalFile { path, file: None, is_name_synced: false }
     }
 
     /// Opens the file, or returns `None` if there is none and none is to be made.
@@ -430,11 +426,7 @@ fn options() -> OpenOptions {
 /// Opens the file that was found at a path.
 fn open_same(path: &Path, found: &Metadata) -> io::Result<File> {
     let file = options().open(path)?;
-    if is_same(&file.metadata()?, found) {
-        Ok(file)
-    } else {
-        Err(no_journal())
-    }
+    if is_same(&file.metadata()?, found) { Ok(file) } else { Err(no_journal()) }
 }
 
 /// Returns what is at the path of a journal, if it has any bytes. An error if it is not a file, or has other names too,
@@ -526,11 +518,7 @@ fn new_journal(path: &Path) -> io::Result<File> {
 
 /// The mode of the journal of a file of this mode. A journal in another group gives its group the rights of all others.
 fn mode_beside(of: u32, is_of_its_group: bool) -> u32 {
-    let group = if is_of_its_group {
-        of & GROUP
-    } else {
-        others(of) << 3
-    };
+    let group = if is_of_its_group { of & GROUP } else { others(of) << 3 };
     OWNER | group | others(of)
 }
 

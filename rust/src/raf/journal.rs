@@ -168,11 +168,7 @@ impl Neighbours {
 ///
 /// [`Refusal::WRONG_JOURNAL`]: the journal is that of another file, or of another state of this one. Any other error: the file has no
 /// header of this algorithm and key, and the journal is not whole.
-pub fn checked_writes<'j, A: Algorithm>(
-    file: &[u8],
-    key: &A::Key,
-    journal: &'j [u8],
-) -> Result<&'j [u8], Refusal> {
+pub fn checked_writes<'j, A: Algorithm>(file: &[u8], key: &A::Key, journal: &'j [u8]) -> Result<&'j [u8], Refusal> {
     let mut length = 0;
     journal_check(A::NUMBER, file, key.as_ref(), journal, &mut length)?;
     let writes = journal.get(START_BYTES..).unwrap_or(&[]);
@@ -199,17 +195,9 @@ mod tests {
     /// A journal has only writes within the longest file.
     #[test]
     fn writes_within_the_longest_file() {
-        let header = PageHeader {
-            page_size: 4032,
-            ..PageHeader::default()
-        };
+        let header = PageHeader { page_size: 4032, ..PageHeader::default() };
         let begun = || Layout::<Aegis256>::of(&[3; 32], &header).journal(&[2; 16]);
-        for (place, is_within) in [
-            (0, true),
-            ((1 << 63) - 4, true),
-            ((1 << 63) - 3, false),
-            (u64::MAX, false),
-        ] {
+        for (place, is_within) in [(0, true), ((1 << 63) - 4, true), ((1 << 63) - 3, false), (u64::MAX, false)] {
             let (bytes, mut begun) = (&[4; 3], begun());
             let mut journal = begun.start[..512].to_vec();
             let (rest, writes) = (&begun.start[512..], &[PendingWrite { place, bytes }]);

@@ -52,12 +52,7 @@ impl<'c> Opener<'c> {
     /// # Errors
     ///
     /// [`Error::ContextTooLong`] or [`Error::Header`].
-    pub fn new(
-        key: &Key,
-        prefix: &Prefix,
-        context: &'c [u8],
-        header: &[u8],
-    ) -> Result<Self, Error> {
+    pub fn new(key: &Key, prefix: &Prefix, context: &'c [u8], header: &[u8]) -> Result<Self, Error> {
         let known = <&[u8; HEADER_BYTES]>::try_from(header).unwrap_or(&[0; HEADER_BYTES]);
         let mut opener = Self::of(Position::default());
         let begun = record_begin_open(&mut opener.records, key, prefix, context, known);
@@ -88,12 +83,7 @@ impl<'c> Opener<'c> {
     /// assert_eq!(opened.message, b"last");
     /// # Ok::<(), Error>(())
     /// ```
-    pub fn begin_at(
-        key: &Key,
-        prefix: &Prefix,
-        context: &'c [u8],
-        position: Position,
-    ) -> Result<Self, Error> {
+    pub fn begin_at(key: &Key, prefix: &Prefix, context: &'c [u8], position: Position) -> Result<Self, Error> {
         let mut opener = Self::of(position);
         let (st, Position { number, before }) = (&mut opener.records, position);
         let begun = record_begin_open_at(st, key, prefix, context, number, before);
@@ -102,11 +92,7 @@ impl<'c> Opener<'c> {
     }
 
     fn of(next: Position) -> Self {
-        Self {
-            records: Records::ENDED,
-            next,
-            end: None,
-        }
+        Self { records: Records::ENDED, next, end: None }
     }
 
     /// Returns the position of the next record, for [`begin_at`](Self::begin_at).
@@ -156,11 +142,7 @@ impl<'c> Opener<'c> {
         let is_last = self.open(&mut message)?;
         message.copy_within(RECORD_HEAD_BYTES.., 0);
         message.truncate(length - RECORD_BYTES);
-        Ok(Opened {
-            message,
-            is_last,
-            rest,
-        })
+        Ok(Opened { message, is_last, rest })
     }
 
     /// Opens the next record in place. The arguments are those of [`open_next`](Self::open_next).
@@ -169,18 +151,11 @@ impl<'c> Opener<'c> {
     ///
     /// Those of [`open_next`](Self::open_next). After [`Error::Damaged`] each byte of the record is
     /// [`ERASED`](crate::ERASED). After any other error `bytes` is unchanged.
-    pub fn open_next_in_place<'b>(
-        &mut self,
-        bytes: &'b mut [u8],
-    ) -> Result<OpenedInPlace<'b>, Error> {
+    pub fn open_next_in_place<'b>(&mut self, bytes: &'b mut [u8]) -> Result<OpenedInPlace<'b>, Error> {
         let length = self.first_len(bytes)?;
         let (record, rest) = bytes.split_at_mut(length);
         let is_last = self.open(record)?;
-        Ok(OpenedInPlace {
-            message: &mut record[RECORD_HEAD_BYTES..][..length - RECORD_BYTES],
-            is_last,
-            rest,
-        })
+        Ok(OpenedInPlace { message: &mut record[RECORD_HEAD_BYTES..][..length - RECORD_BYTES], is_last, rest })
     }
 
     /// Checks that the whole stream was opened. `rest` has the bytes after the records that were opened.

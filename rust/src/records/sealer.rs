@@ -147,10 +147,7 @@ mod tests {
         sealer.records.opaque[2] = MAX_AEAD_BYTES - 4 - 37 - 10;
         let mut stream = vec![3; 5];
         let sealed = sealer.seal_next(&[9; 11], &mut stream);
-        assert_eq!(
-            (sealed, &stream[..]),
-            (Err(Error::StreamTooLong), &[3; 5][..])
-        );
+        assert_eq!((sealed, &stream[..]), (Err(Error::StreamTooLong), &[3; 5][..]));
         // The message does not stay behind the end of the vector.
         for byte in &mut stream.spare_capacity_mut()[..37 + 11] {
             // SAFETY: the record was written there.

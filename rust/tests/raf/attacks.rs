@@ -21,18 +21,9 @@ fn named_back(folder: &Folder) -> io::Result<()> {
 /// another name.
 const MOVES: [(Done, Done); 4] = [
     (renamed, named_back),
-    (
-        |at| renamed(at).and_then(|()| fs::copy(at.path("other"), at.file()).map(drop)),
-        named_back,
-    ),
-    (
-        |at| renamed(at).and_then(|()| symlink(at.path("other"), at.file())),
-        named_back,
-    ),
-    (
-        |at| fs::hard_link(at.file(), at.path("other")),
-        |at| fs::remove_file(at.path("other")),
-    ),
+    (|at| renamed(at).and_then(|()| fs::copy(at.path("other"), at.file()).map(drop)), named_back),
+    (|at| renamed(at).and_then(|()| symlink(at.path("other"), at.file())), named_back),
+    (|at| fs::hard_link(at.file(), at.path("other")), |at| fs::remove_file(at.path("other"))),
 ];
 
 /// A commit of a file that is not where it was opened would leave a journal that nobody finds: it is refused before

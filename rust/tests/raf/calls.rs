@@ -68,9 +68,7 @@ fn a_drop_after_a_panic_in_a_change_commits_nothing() {
         assert!(at != At::Read || !panics.get(), "a read that panics");
         Ok(())
     };
-    let opened = disks
-        .builder()
-        .open(Before(disks.file.clone(), reads), &KEY);
+    let opened = disks.builder().open(Before(disks.file.clone(), reads), &KEY);
     let mut file = opened.unwrap();
     file.write(b"the first of two", 0).unwrap();
     panics.set(true);
@@ -222,10 +220,7 @@ fn locks_that_are_refused() {
         outcome(beside().open(disks.file.clone(), &KEY)),
         outcome(beside().create(disks.file.clone(), &KEY)),
     ];
-    assert_eq!(
-        (refused, disks.calls()),
-        (["Locked"; 4].map(String::from), 0)
-    );
+    assert_eq!((refused, disks.calls()), (["Locked"; 4].map(String::from), 0));
     assert_eq!(disks.text(), [1; 600]);
 }
 
@@ -311,10 +306,7 @@ fn the_reserved_nonce() {
         }))
     };
     let created = builder(1).create(disks.file.clone(), &KEY);
-    assert_eq!(
-        (outcome(created).as_str(), disks.calls()),
-        ("InvalidData", 0)
-    );
+    assert_eq!((outcome(created).as_str(), disks.calls()), ("InvalidData", 0));
     drop(builder(2).create(disks.file.clone(), &KEY).unwrap());
     let mut file = builder(0).open(disks.file.clone(), &KEY).unwrap();
     file.write(b"kept", 0).unwrap();

@@ -87,10 +87,7 @@ fn each_changed_byte_of_a_journal() {
         // The MAC is not of the front: a whole journal is that of this file by the headers in it.
         let expected = if at < 512 { &after } else { &before };
         let found = text_of(&mut disks.open().unwrap());
-        assert!(
-            found == *expected && disks.bytes().1.is_empty(),
-            "byte {at}"
-        );
+        assert!(found == *expected && disks.bytes().1.is_empty(), "byte {at}");
         changed.1.pop();
         if at < 512 {
             check_refused(&changed, &KEY, "Journal");
@@ -143,12 +140,7 @@ fn the_journal_of_another_file() {
     let cut = cut_short(&disks.bytes(), &[1; 500], 300, JOURNAL_CALLS);
     let (_, other) = cut.bytes();
     let begun = [513, 528, 560, other.len()].map(|size| other[..size].to_vec());
-    let others = [
-        vec![b'a'; 513],
-        vec![0; 5000],
-        file[..600].to_vec(),
-        file.clone(),
-    ];
+    let others = [vec![b'a'; 513], vec![0; 5000], file[..600].to_vec(), file.clone()];
     for journal in begun.into_iter().chain(others) {
         check_refused(&(file.clone(), journal), &KEY, "Journal");
     }

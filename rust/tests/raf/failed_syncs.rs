@@ -20,13 +20,7 @@ impl World {
         let text = Random(seed).bytes(1100);
         let disks = Disks::with(&text);
         disks.log().calls.clear();
-        World {
-            stored: disks.bytes(),
-            disks,
-            allowed: vec![text],
-            random: Random(seed),
-            seen: [0; 3],
-        }
+        World { stored: disks.bytes(), disks, allowed: vec![text], random: Random(seed), seen: [0; 3] }
     }
 
     fn crash(&mut self) {

@@ -61,10 +61,7 @@ macro_rules! contents {
                 found
             }
 
-            fn batch(
-                &mut self,
-                run: &mut dyn FnMut(&mut FileBatch<'_>) -> Result<()>,
-            ) -> Result<()> {
+            fn batch(&mut self, run: &mut dyn FnMut(&mut FileBatch<'_>) -> Result<()>) -> Result<()> {
                 self.batch(run)
             }
         }

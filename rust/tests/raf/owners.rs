@@ -70,10 +70,7 @@ fn check_owner(folder: &Folder, expected: &str, row: &str) {
     assert_eq!(opened, "rejected", "{row}");
     for (path, before) in [folder.file(), folder.journal()].iter().zip(before) {
         let after = fs::metadata(path).unwrap();
-        assert_eq!(
-            (after.mode(), after.len(), after.mtime_nsec()),
-            (before.mode(), before.len(), before.mtime_nsec())
-        );
+        assert_eq!((after.mode(), after.len(), after.mtime_nsec()), (before.mode(), before.len(), before.mtime_nsec()));
     }
 }
 
@@ -154,35 +151,21 @@ fn prepare(folder: &Folder, case: &str) -> &'static str {
             let made = Command::new("mkfifo").arg(journal).status();
             made.map(|status| assert!(status.success()))
         }
-        "journal-hard-link" => {
-            fs::write(&journal, [7; 20]).and_then(|()| fs::hard_link(journal, link))
-        }
+        "journal-hard-link" => fs::write(&journal, [7; 20]).and_then(|()| fs::hard_link(journal, link)),
         "open-journal" => fs::write(journal, [7; 20]),
         "journal-empty" | "open-journal-empty" => fs::write(journal, b""),
         "journal-empty-mode-666" => fs::write(&journal, b"").map(|()| set_mode(&journal, "666")),
-        "journal-empty-hard-link" => {
-            fs::write(&journal, b"").and_then(|()| fs::hard_link(journal, link))
-        }
-        "copy-file" => {
-            fs::write(&journal, whole_journal(folder)).and_then(|()| fs::write(copy, b"copy"))
-        }
-        "copy-link" => {
-            fs::write(&journal, whole_journal(folder)).and_then(|()| symlink(other, copy))
-        }
-        "copy-folder" => {
-            fs::write(&journal, whole_journal(folder)).and_then(|()| fs::create_dir(copy))
-        }
+        "journal-empty-hard-link" => fs::write(&journal, b"").and_then(|()| fs::hard_link(journal, link)),
+        "copy-file" => fs::write(&journal, whole_journal(folder)).and_then(|()| fs::write(copy, b"copy")),
+        "copy-link" => fs::write(&journal, whole_journal(folder)).and_then(|()| symlink(other, copy)),
+        "copy-folder" => fs::write(&journal, whole_journal(folder)).and_then(|()| fs::create_dir(copy)),
         "open-renamed" => fs::rename(file, folder.path("renamed")),
         "open-removed" => fs::remove_file(file),
         "open-replaced" => fs::rename(other, file),
         _ => panic!("no test of the row {case}"),
     }
     .unwrap();
-    if case.starts_with("link") {
-        "link"
-    } else {
-        "file"
-    }
+    if case.starts_with("link") { "link" } else { "file" }
 }
 
 /// Names: links, what is in the place of a journal or of its copy, and what happens to a file that is open.

@@ -199,13 +199,7 @@ impl RafIo for Disk {
 
     fn sync(&mut self) -> io::Result<()> {
         let is_done = self.syncs();
-        self.log(|| {
-            if is_done {
-                Call::Sync
-            } else {
-                Call::FailedSync
-            }
-        })?;
+        self.log(|| if is_done { Call::Sync } else { Call::FailedSync })?;
         is_done.then_some(()).ok_or(io::Error::from_raw_os_error(5))
     }
 
@@ -257,16 +251,8 @@ impl Disks {
             syncs_left: usize::MAX,
             ..Log::default()
         }));
-        let disk = |bytes, part| Disk {
-            bytes: Rc::new(RefCell::new(bytes)),
-            log: log.clone(),
-            journal: None,
-            part,
-        };
-        Disks {
-            file: disk(file, Part::File),
-            journal: disk(journal, Part::Journal),
-        }
+        let disk = |bytes, part| Disk { bytes: Rc::new(RefCell::new(bytes)), log: log.clone(), journal: None, part };
+        Disks { file: disk(file, Part::File), journal: disk(journal, Part::Journal) }
     }
 
     /// The disks of a new file with these contents.
@@ -545,9 +531,7 @@ impl Folder {
     pub fn names(&self) -> Vec<String> {
         let files = fs::read_dir(&self.0).unwrap();
         let name = |file: io::Result<fs::DirEntry>| file.unwrap().file_name();
-        let mut names: Vec<_> = files
-            .map(|file| name(file).into_string().unwrap())
-            .collect();
+        let mut names: Vec<_> = files.map(|file| name(file).into_string().unwrap()).collect();
         names.sort();
         names
     }
@@ -628,8 +612,5 @@ pub fn run_as_another_user(folder: &Folder, mode: u32, test: &str, variable: &st
     let output = command.output().unwrap();
     allow(&folder.path(""), 0o755);
     let printed = String::from_utf8_lossy(&output.stdout);
-    assert!(
-        output.status.success() && printed.contains("1 passed"),
-        "{mode:o} {printed}"
-    );
+    assert!(output.status.success() && printed.contains("1 passed"), "{mode:o} {printed}");
 }

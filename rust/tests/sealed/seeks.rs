@@ -262,9 +262,7 @@ fn only_what_is_needed_is_read() {
         let count = Cell::new(0);
         let mut inner = Cursor::new(&bytes);
         inner.set_position(9);
-        let counted = After(inner, |_, bytes: &mut [u8]| {
-            count.set(count.get() + bytes.len())
-        });
+        let counted = After(inner, |_, bytes: &mut [u8]| count.set(count.get() + bytes.len()));
         let mut reader = SealedReader::new(counted, &key());
         assert_eq!(reader.seek(to).unwrap(), place as u64);
         assert!(count.get() <= most, "{to:?} {count:?}");
@@ -287,9 +285,7 @@ fn zeros() {
     file.resize(1 << 20, 0);
     for to in [End(0), Start(5)] {
         let mut count = 0;
-        let counted = After(Cursor::new(&file), |_, bytes: &mut [u8]| {
-            count += bytes.len()
-        });
+        let counted = After(Cursor::new(&file), |_, bytes: &mut [u8]| count += bytes.len());
         let mut reader = SealedReader::new(counted, &key());
         let fault = fault_of(&reader.seek(to).unwrap_err());
         assert_eq!(fault, Error::Damaged(1));

@@ -15,12 +15,7 @@ use std::process::Command;
 fn written_in_any_lengths() {
     let contents = Random(1).bytes(200_000);
     let mut prefixes = HashSet::new();
-    let around = [
-        PIECE_BYTES - 1,
-        PIECE_BYTES,
-        PIECE_BYTES + 1,
-        2 * PIECE_BYTES,
-    ];
+    let around = [PIECE_BYTES - 1, PIECE_BYTES, PIECE_BYTES + 1, 2 * PIECE_BYTES];
     for length in [0, 1, 1000, 200_000].into_iter().chain(around) {
         for most in [1, 999, PIECE_BYTES, 200_000] {
             let inner = Before(Vec::new(), slow(50_000));
@@ -128,11 +123,7 @@ fn written(file: &mut impl Write, contents: &[u8]) -> io::Result<()> {
             // Only a flush leaves the writer as it was.
             return Err(error);
         }
-        let results = [
-            writer.write(&[]).map(drop),
-            writer.flush(),
-            writer.finish().map(drop),
-        ];
+        let results = [writer.write(&[]).map(drop), writer.flush(), writer.finish().map(drop)];
         for result in results {
             assert_eq!(result.unwrap_err().kind(), ErrorKind::Other);
         }
