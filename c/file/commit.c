@@ -11,13 +11,11 @@ enum {
     START_BYTES = HUNKRAVY_JOURNAL_START_BYTES,
     NONCE_BYTES = HUNKRAVY_JOURNAL_NONCE_BYTES,
     HEAD_BYTES = HUNKRAVY_JOURNAL_HEAD_BYTES,
-    /* Of the beginning of a journal: the mark and the variant. */
-    COMMON_BYTES = 5,
     /* How many bytes are written in one call, and read. One longer write is a call of its own. */
     GATHERED_BYTES = 256 * 1024,
     READ_BYTES = 64 * 1024,
     DEFAULT_LIMIT = 16 << 20,
-    /* A journal that does not begin as those of its file is read if it has no more bytes: it may be no journal. */
+    /* A longer journal is read only if it begins as those of the file, or, without a header, as any: it may be no journal. */
     MOST_FOREIGN_BYTES = 64 << 20
 };
 
@@ -308,18 +306,6 @@ int hunkravy_file_commit(hunkravy_file *file)
 
 /* ---- Opening */
 
-/* Whether a journal begins as those of the file, or as any of this variant if the file has no header. */
-static int is_of_file(const hunkravy_file *file, const uint8_t *beginning)
-{
-    static const uint8_t nonce[NONCE_BYTES] = {0};
-    hunkravy_state state;
-    uint8_t start[START_BYTES];
-    uint32_t size = file->page_size == 0 ? HUNKRAVY_PAGE_MIN_SIZE : file->page_size;
-    int code = hunkravy_journal_init(file->variant, &state, size, file->id, nonce, file->key, file->key_bytes, start);
-    hunkravy_wipe(&state, sizeof state);
-    return code == HUNKRAVY_OK && memcmp(start, beginning, file->page_size == 0 ? COMMON_BYTES : BEGINNING_BYTES) == 0;
-}
-
 /* Reads the header into the fields of the file. */
 static int open_header(hunkravy_file *file, const uint8_t *block, size_t length)
 {
@@ -395,11 +381,27 @@ static int replay(hunkravy_file *file, uint8_t *journal, uint64_t size, const ui
                                        : code;
 }
 
+/* Checks the beginning of a long journal, which is a torn journal in itself. */
+static int check_beginning(const hunkravy_file *file, const uint8_t *block, size_t length)
+{
+    uint8_t beginning[BEGINNING_BYTES + 1];
+    size_t writes;
+    int code = file->storage.read(file->storage.context, HUNKRAVY_PART_JOURNAL, 0, beginning, sizeof beginning);
+    if (code == HUNKRAVY_OK) {
+        code = hunkravy_journal_check(
+            file->variant, block, length, file->key, file->key_bytes, beginning, sizeof beginning, &writes);
+    }
+    if (code == HUNKRAVY_INVALID_TAG) {
+        code = memcmp(beginning, "AGJ1", 4) == 0 ? HUNKRAVY_OK : HUNKRAVY_NO_FILE;
+    }
+    return code;
+}
+
 /* Completes a commit that was interrupted, or leaves out all of it, and reads the header. */
 static int recover(hunkravy_file *file)
 {
     const struct hunkravy_storage *storage = &file->storage;
-    uint8_t block[BLOCK_BYTES], beginning[BEGINNING_BYTES], *journal;
+    uint8_t block[BLOCK_BYTES], *journal;
     size_t length;
     uint64_t size;
     int code;
@@ -412,10 +414,7 @@ static int recover(hunkravy_file *file)
     TRY(read_block(file, block, &length));
     (void)open_header(file, block, length);
     if (size > MOST_FOREIGN_BYTES) {
-        TRY(storage->read(storage->context, HUNKRAVY_PART_JOURNAL, 0, beginning, BEGINNING_BYTES));
-        if (!is_of_file(file, beginning)) {
-            return file->page_size == 0 ? HUNKRAVY_NO_FILE : HUNKRAVY_WRONG_JOURNAL;
-        }
+        TRY(check_beginning(file, block, length));
     }
     journal = size > SIZE_MAX / 2 ? NULL : malloc((size_t)size + 1);
     code = journal == NULL ? ENOMEM : replay(file, journal, size, block, length);

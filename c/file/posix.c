@@ -49,39 +49,27 @@ int hunkravy_file_is_this(const struct process *process)
 
 /* ---- Calls of the system. Each returns 0, or the error number. Those that a new glibc has under new names are made directly. */
 
-static int get(int fd, uint8_t *bytes, size_t length, uint64_t place)
+/* Fills `in` from a file, or writes `out` to it if `in` is null: all of the bytes. */
+static int transfer(int fd, uint8_t *in, const uint8_t *out, size_t length, uint64_t place)
 {
-    while (length > 0) {
-        ssize_t count = pread(fd, bytes, length, (off_t)place);
-        if (count == 0) {
+    for (size_t done = 0; done < length;) {
+        off_t at = (off_t)(place + done);
+        ssize_t count =
+            in != NULL ? pread(fd, in + done, length - done, at) : pwrite(fd, out + done, length - done, at);
+        if (count == 0 && in != NULL) {
             return HUNKRAVY_DAMAGED_PAGE;
         }
         if (count < 0 && errno != EINTR) {
             return errno;
         }
-        if (count > 0) {
-            bytes += count;
-            length -= (size_t)count;
-            place += (uint64_t)count;
-        }
+        done += count > 0 ? (size_t)count : 0;
     }
     return 0;
 }
 
 static int put(int fd, const uint8_t *bytes, size_t length, uint64_t place)
 {
-    while (length > 0) {
-        ssize_t count = pwrite(fd, bytes, length, (off_t)place);
-        if (count < 0 && errno != EINTR) {
-            return errno;
-        }
-        if (count > 0) {
-            bytes += count;
-            length -= (size_t)count;
-            place += (uint64_t)count;
-        }
-    }
-    return 0;
+    return transfer(fd, NULL, bytes, length, place);
 }
 
 static int sync_fd(int fd)
@@ -422,7 +410,7 @@ static int system_read(void *context, enum hunkravy_part part, uint64_t place, u
 {
     int fd;
     TRY(fd_of(context, part, &fd));
-    return fd < 0 ? HUNKRAVY_DAMAGED_PAGE : get(fd, bytes, length, place);
+    return fd < 0 ? HUNKRAVY_DAMAGED_PAGE : transfer(fd, bytes, NULL, length, place);
 }
 
 static int system_write(void *context, enum hunkravy_part part, uint64_t place, const uint8_t *bytes, size_t length)
@@ -476,15 +464,12 @@ static int system_forget(void *context, enum hunkravy_part part)
 static int system_random(void *context, uint8_t *bytes, size_t length)
 {
     (void)context;
-    while (length > 0) {
-        long count = syscall(SYS_getrandom, bytes, length, 0);
+    for (size_t done = 0; done < length;) {
+        long count = syscall(SYS_getrandom, bytes + done, length - done, 0);
         if (count < 0 && errno != EINTR) {
             return errno;
         }
-        if (count > 0) {
-            bytes += count;
-            length -= (size_t)count;
-        }
+        done += count > 0 ? (size_t)count : 0;
     }
     return 0;
 }

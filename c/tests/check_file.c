@@ -9,6 +9,7 @@
 #include "hunkravy_file.h"
 
 #include <errno.h>
+#include <fcntl.h>
 #include <unistd.h>
 
 static const uint8_t key[HUNKRAVY_AEGIS256_KEY_BYTES] = {7, 7, 7};
@@ -505,13 +506,15 @@ static void check_memory(void)
 static void check_system(void)
 {
     static struct model model;
-    char folder[] = "/tmp/check_file-XXXXXX", path[80];
+    char folder[] = "/tmp/check_file-XXXXXX", path[80], journal[90];
     hunkravy_file *file, *second;
     uint8_t mac[2][HUNKRAVY_FILE_COMMITMENT_BYTES];
     size_t length;
+    int fd;
 
     HOLDS(mkdtemp(folder) != NULL);
     snprintf(path, sizeof path, "%s/file", folder);
+    snprintf(journal, sizeof journal, "%s.journal", path);
     HOLDS(hunkravy_file_open(&file, path, HUNKRAVY_AEGIS256, key, sizeof key) == ENOENT && file == NULL);
     HOLDS(hunkravy_file_create(&file, path, 6, key, sizeof key, 0) == HUNKRAVY_WRONG_VARIANT);
     HOLDS(hunkravy_file_create(&file, path, HUNKRAVY_AEGIS256, key, 16, 0) == HUNKRAVY_WRONG_KEY_LENGTH);
@@ -540,6 +543,11 @@ static void check_system(void)
     HOLDS(hunkravy_file_commit(file) == 0 && hunkravy_file_commitment(file, mac[1]) == 0);
     HOLDS(memcmp(mac[0], mac[1], sizeof mac[0]) != 0);
     HOLDS(hunkravy_file_close(file) == 0);
+    /* A long journal of another file is rejected before there is memory for it. */
+    fd = open(journal, O_WRONLY | O_CREAT | O_EXCL, 0600);
+    HOLDS(fd >= 0 && ftruncate(fd, (off_t)1 << 40) == 0 && close(fd) == 0);
+    HOLDS(hunkravy_file_open(&file, path, HUNKRAVY_AEGIS256, key, sizeof key) == HUNKRAVY_WRONG_JOURNAL);
+    HOLDS(hunkravy_file_open(&file, path, HUNKRAVY_AEGIS128L, key, 16) == HUNKRAVY_NO_FILE && unlink(journal) == 0);
     HOLDS(truncate(path, 5000) == 0 && hunkravy_file_open(&file, path, HUNKRAVY_AEGIS256, key, sizeof key) == 0);
     HOLDS(hunkravy_file_read(file, 0, model.bytes, 5, &length) == HUNKRAVY_DAMAGED_PAGE && length == 0);
     HOLDS(hunkravy_file_damaged_page(file) == 0 && hunkravy_file_close(file) == 0);
