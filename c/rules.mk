@@ -216,9 +216,9 @@ abi:
 check-level: $(OUT)/both/libhunkravy.a $(OUT)/both/$(SONAME)
 	tools/check_level.sh $^ $(STORED_LINES)
 
-# The tests as C++, which call what the headers have. Exception: those of files.
+# The tests as C++, which call what the headers have. Exceptions: those of files, and of journal.h, which is for C.
 check-c++: $(OUT)/both/libhunkravy.a
-	for program in $(filter-out check_file check_posix check_owners,$(C_TESTS)); do \
+	for program in $(filter-out check_file check_journals check_posix check_owners,$(C_TESTS)); do \
 		$(CC) -std=c++11 $(C_FLAGS) -O2 -x c++ c/tests/$$program.c -x none $< -o $(OUT)/both/$$program++ && \
 		$(OUT)/both/$$program++ $(STORED_LINES) || exit 1; \
 	done

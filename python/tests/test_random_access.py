@@ -200,7 +200,8 @@ class Files(unittest.TestCase):
             file.discard()
             self.assertEqual(file.read_at(0, 9), b"before")
             # Its block goes on, so a change in it would be in no batch.
-            calls = (file.commit, file.batch().__enter__, lambda: file.write_at(0, b"x"), lambda: file.truncate(0))
+            calls: list[Callable[[], object]] = [file.commit, file.batch().__enter__]
+            calls += [lambda: file.write_at(0, b"x"), lambda: file.truncate(0)]
             for call in calls:
                 self.assertRaisesRegex(RuntimeError, "batch of this block has ended", call)
             del batch
@@ -381,7 +382,7 @@ class Files(unittest.TestCase):
             with self.assertRaises((ValueError, OverflowError), msg=str(size)):
                 RandomAccessFile.create(self.path, KEY, page_size=size)
         for variant in (-1, 6, (1 << 32) + 3, (1 << 64) - 1, 1 << 64, (1 << 64) + 3):
-            cipher = type("Other", (Aegis256,), {"_VARIANT": variant})
+            cipher: Any = type("Other", (Aegis256,), {"_VARIANT": variant})
             with self.assertRaises((TypeError, ValueError, OverflowError), msg=str(variant)):
                 RandomAccessFile.create(self.path, KEY, cipher=cipher)
             with self.assertRaises((TypeError, ValueError, OverflowError), msg=str(variant)):
