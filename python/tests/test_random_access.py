@@ -220,8 +220,12 @@ class Files(unittest.TestCase):
     def test_signals(self) -> None:
         """A call that a handler's exception comes in is made whole, and an opening leaves no descriptor."""
 
+        class Interrupt(Exception):
+            pass
+
         def interrupt(*_: object) -> None:
-            raise KeyboardInterrupt
+            if is_interrupted:
+                raise Interrupt
 
         RandomAccessFile.create(self.path, KEY).close()
         descriptors, before = len(os.listdir("/proc/self/fd")), b""
@@ -229,12 +233,13 @@ class Files(unittest.TestCase):
         interrupts = 0
         try:
             for turn in range(120):
-                data = bytes([turn % 256]) * 300_000
-                signal.setitimer(signal.ITIMER_REAL, 0.0001 * 1.25 ** (turn % 30))
+                data, is_interrupted = bytes([turn % 256]) * 300_000, True
                 try:
+                    signal.setitimer(signal.ITIMER_REAL, 0.0001 * 1.25 ** (turn % 30))
                     with RandomAccessFile(self.path, KEY) as file:
                         file.write_at(0, data)
-                except KeyboardInterrupt:
+                    is_interrupted = False
+                except Interrupt:
                     interrupts += 1
                 signal.setitimer(signal.ITIMER_REAL, 0)
                 file = None  # type: ignore[assignment]
