@@ -1,19 +1,17 @@
 #!/bin/bash
-# check_batches.sh PROVED [RUST LEFT C]: kills programs that write to several rows of one encrypted file at once, by
+# check_batches.sh PROVED [RUST LEFT]: kills programs that write to several rows of one encrypted file at once, by
 # turns, at 200 moments. After each kill another one recovers the file, and a copy of it: all rows must hold one number, the
 # same in both, and none that is older than the last one seen.
 #
-# PROVED is the program of crates/example_batches, RUST the example batches of the Cargo package, and C the program check_file
-# of c/tests, whose engine is Python's too. LEFT is the folder that the Cargo package's test
-# `each_call_of_two_batches` has written: what made-up crashes have left, with any bytes where something was to be written. All
-# programs have to open that too.
+# PROVED is the program of crates/example_batches, and RUST the example batches of the Cargo package. LEFT is the folder that
+# the Cargo package's test `each_call_of_two_batches` has written: what made-up crashes have left, with any bytes where
+# something was to be written. All programs have to open that too.
 set -euo pipefail
 
 proved=$(realpath "$1")
 rust=${2:+$(realpath "$2")}
 left=${3:+$(realpath "$3")}
-c=${4:+$(realpath "$4")}
-programs=(proved ${rust:+rust} ${c:+c})
+programs=(proved ${rust:+rust})
 folder=$(mktemp -d)
 trap 'rm -rf "$folder"' EXIT
 cd "$folder"
@@ -28,7 +26,6 @@ run() {
     case $1 in
         proved) exec "$proved" "$2" "$2.journal" "${@:3}" ;;
         rust) exec "$rust" "${@:2}" ;;
-        c) exec "$c" batches "${@:2}" ;;
     esac
 }
 
