@@ -106,20 +106,6 @@ fn a_link_to_no_file_and_a_journal() {
     assert_eq!(journal.unwrap(), b"something");
 }
 
-/// The beginning of a journal, and an empty one, are of no use to any file, and are removed.
-#[test]
-fn a_journal_with_no_record() {
-    let folder = Folder::with(b"text");
-    for size in [0, 1, 511, 512] {
-        fs::write(folder.journal(), vec![b'A'; size]).unwrap();
-        assert_eq!(folder.text(), b"text");
-        assert_eq!(folder.names(), ["file"]);
-    }
-    fs::write(folder.journal(), [b'A'; 513]).unwrap();
-    assert_eq!(outcome(folder.open()), "Journal");
-    assert_eq!(folder.names(), ["file", "file.journal"]);
-}
-
 /// Bytes after the last page are read by nobody, and are written over when the text grows.
 #[test]
 fn bytes_after_the_last_page() {

@@ -4,7 +4,7 @@ use crate::support::*;
 use hunkravy::raf::*;
 use std::cell::{Cell, RefCell};
 use std::error::Error as _;
-use std::io;
+use std::io::{self, Write};
 use std::panic::{AssertUnwindSafe, catch_unwind};
 use std::time::Instant;
 
@@ -45,6 +45,46 @@ fn drops() {
         }));
         assert_eq!(made.is_ok_and(|made| made.is_ok()), size > 0, "{number}");
         assert_eq!(disks.text().len(), size, "{number}");
+    }
+}
+
+/// A call that fails in a commit breaks the file. If it was to make the file longer, the changes are still in memory.
+#[test]
+fn each_call_that_fails() {
+    let begun = Disks::with(&[1; 1100]).bytes();
+    for left in 0.. {
+        let disks = Disks::of(begun.clone());
+        let mut file = disks.open().unwrap();
+        file.truncate(300).unwrap();
+        file.write(&[2; 2200], 300).unwrap();
+        disks.leave(left);
+        if file.commit().is_ok() {
+            return assert_eq!(left, 11);
+        }
+        disks.leave(usize::MAX);
+        match disks.log().calls.last() {
+            Some((Part::File, Call::Resize(_))) => assert_eq!(file.size(), 2500),
+            _ => check_is_broken(&mut file),
+        }
+        let calls = disks.calls();
+        drop(file);
+        assert_eq!(disks.calls(), calls);
+        assert!([1100, 2500].contains(&disks.text().len()));
+    }
+}
+
+fn check_is_broken(file: &mut File) {
+    assert_eq!(outcome(read(file)), "Broken");
+    assert!(file.cursor().write(b"").is_err());
+    for result in [
+        file.write(b"no", 0).map(drop),
+        file.truncate(0),
+        file.truncate(5000),
+        file.commit(),
+        file.sync(),
+        file.commitment().map(drop),
+    ] {
+        assert_eq!(outcome(result), "Broken");
     }
 }
 
