@@ -1,6 +1,7 @@
 /*
- * What other programs do to a random-access file while it is created, and a sync of it that fails. The program is linked with
- * --wrap for the calls below; otherwise it does nothing. What a crash leaves of files of the system, testkit/disk tests.
+ * Random-access files of the system: what other programs do to one while it is created, a sync that fails, and the calls of a
+ * creation, of a commit and of a recovery, in order. The program is linked with --wrap for the calls below; otherwise it does
+ * nothing. What a loss of power leaves is tested in testkit/disk.
  */
 #ifndef _GNU_SOURCE
 #define _GNU_SOURCE
@@ -11,6 +12,7 @@
 #include <errno.h>
 #include <fcntl.h>
 #include <sys/file.h>
+#include <sys/stat.h>
 #include <unistd.h>
 
 enum { ALL = 1 << 30 };
@@ -29,20 +31,39 @@ static int is_let(void)
     return errno == 0;
 }
 
-int __real_flock(int fd, int operation) __attribute__((weak));
-int __wrap_flock(int fd, int operation);
-int __wrap_fsync(int fd);
+/* The calls that change something, each with what it changes. */
+static char calls[1000];
+static int writes_left = ALL;
 
-int __wrap_flock(int fd, int operation)
+static void note(const char *call, int fd)
 {
-    return is_let() ? __real_flock(fd, operation) : -1;
+    struct stat found, file;
+    int is_file = stat(path, &file) == 0 && fstat(fd, &found) == 0 && file.st_ino == found.st_ino;
+    HOLDS(fstat(fd, &found) == 0);
+    strcat(calls, call);
+    strcat(calls, is_file ? " file, " : S_ISDIR(found.st_mode) ? " folder, " : " journal, ");
 }
 
-int __wrap_fsync(int fd)
-{
-    (void)fd;
-    return !is_let() ? -1 : syncs_left-- != 0 ? 0 : (errno = EIO, -1);
-}
+/* Defines a call that is noted, and then made if `condition` holds. */
+#define WRAPPED(type, name, parameters, arguments, shown, condition) \
+    type __real_##name parameters __attribute__((weak)); \
+    type __wrap_##name parameters; \
+    type __wrap_##name parameters \
+    { \
+        shown; \
+        return (condition) ? __real_##name arguments : (errno = errno == 0 ? EIO : errno, -1); \
+    }
+
+WRAPPED(int, flock, (int fd, int operation), (fd, operation), , is_let())
+WRAPPED(int, fsync, (int fd), (fd), note("sync", fd), is_let() && syncs_left-- != 0)
+WRAPPED(ssize_t, pwrite, (int fd, const void *bytes, size_t length, off_t place), (fd, bytes, length, place),
+    note("write", fd), writes_left-- != 0)
+WRAPPED(int, ftruncate, (int fd, off_t length), (fd, length), note("resize", fd), 1)
+WRAPPED(
+    int, fallocate, (int fd, int mode, off_t place, off_t length), (fd, mode, place, length), note("reserve", fd), 1)
+WRAPPED(int, posix_fadvise, (int fd, off_t place, off_t length, int advice), (fd, place, length, advice),
+    note("forget", fd), 1)
+WRAPPED(int, rename, (const char *from, const char *to), (from, to), strcat(calls, "rename, "), 1)
 
 static const char precious[] = "precious";
 
@@ -108,6 +129,42 @@ static void check_creations(void)
     syncs_left = ALL;
 }
 
+static void expect_calls(const char *expected)
+{
+    if (strcmp(calls, expected) != 0) {
+        fprintf(stderr, "%s\n", calls);
+    }
+    HOLDS(strcmp(calls, expected) == 0);
+    calls[0] = '\0';
+}
+
+/* Each step of a commit, and of a recovery that completes it, ends with a sync. So does a creation. */
+static void check_order(void)
+{
+    static const char journal[] =
+        "reserve file, write journal, sync journal, sync folder, write journal, sync journal, ",
+                      file[] = "write file, write file, write file, sync file, resize journal, sync journal, ";
+    static const char recovery[] = "sync file, forget file, sync journal, forget journal, sync file, ";
+    char expected[sizeof journal + sizeof file + sizeof recovery];
+    hunkravy_file *opened;
+
+    calls[0] = '\0';
+    HOLDS(hunkravy_file_create(&opened, path, HUNKRAVY_AEGIS256, key, sizeof key, 0) == 0);
+    expect_calls("write file, sync file, sync folder, ");
+    HOLDS(hunkravy_file_write(opened, 0, "before", 6) == 0 && hunkravy_file_commit(opened) == 0);
+    snprintf(expected, sizeof expected, "%s%s", journal, file);
+    expect_calls(expected);
+    HOLDS(hunkravy_file_write(opened, 0, "after!", 6) == 0);
+    writes_left = 2;
+    HOLDS(hunkravy_file_commit(opened) == EIO && hunkravy_file_close(opened) == HUNKRAVY_FILE_BROKEN);
+    writes_left = ALL;
+    calls[0] = '\0';
+    HOLDS(hunkravy_file_open(&opened, path, HUNKRAVY_AEGIS256, key, sizeof key) == 0);
+    snprintf(expected, sizeof expected, "%swrite journal, sync journal, rename, sync folder, %s", recovery, file);
+    expect_calls(expected);
+    HOLDS(hunkravy_file_close(opened) == 0 && unlink(path) == 0);
+}
+
 int main(void)
 {
     char folder[] = "/tmp/check_posix-XXXXXX";
@@ -117,6 +174,7 @@ int main(void)
     HOLDS(mkdtemp(folder) != NULL);
     snprintf(path, sizeof path, "%s/file", folder);
     check_creations();
-    printf("creations of random-access files: %lu checks\n", checks);
+    check_order();
+    printf("random-access files of the system: %lu checks\n", checks);
     return rmdir(folder) == 0 ? EXIT_SUCCESS : EXIT_FAILURE;
 }
