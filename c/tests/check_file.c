@@ -1,6 +1,6 @@
 /*
- * Random-access files. Random calls are made to a file and to a model of it, and those of testkit/batches.txt. A commit is
- * stopped at each call of its storage. Each allocation fails by turns. What crashes leave, testkit/disk tests.
+ * Random-access files. Random calls are made to a file and to a model of it, and those of testkit/batches.txt. Each allocation
+ * fails by turns. The tests of the Cargo package run over this engine too, and testkit/disk tests what crashes leave.
  */
 #ifndef _DEFAULT_SOURCE
 #define _DEFAULT_SOURCE
@@ -57,25 +57,19 @@ void *__wrap_calloc(size_t count, size_t length)
     return is_refused() ? (errno = ENOMEM, (void *)NULL) : __real_calloc(count, length);
 }
 
-/* ---- A storage that may stop, and that may be full */
+/* ---- A storage that may be full */
 
-enum { MOST_STORED = 1 << 17, STOPPED = 200, ALL = 1 << 30 };
+enum { MOST_STORED = 1 << 17 };
 
 struct part {
     size_t length;
     uint8_t bytes[MOST_STORED];
 };
 
-/* So many calls are made, and no other one. */
 struct disk {
     struct part part[2];
-    int calls_left, is_full;
+    int is_full;
 };
-
-static int is_stopped(struct disk *disk)
-{
-    return disk->calls_left == 0 || disk->calls_left-- == 0;
-}
 
 static int disk_read(void *context, enum hunkravy_part which, uint64_t place, uint8_t *bytes, size_t length)
 {
@@ -92,8 +86,8 @@ static int disk_write(void *context, enum hunkravy_part which, uint64_t place, c
     struct disk *disk = (struct disk *)context;
     struct part *part = &disk->part[which];
     HOLDS(place + length <= MOST_STORED);
-    if (is_stopped(disk) || (disk->is_full && place + length > part->length)) {
-        return disk->is_full ? ENOSPC : STOPPED;
+    if (disk->is_full && place + length > part->length) {
+        return ENOSPC;
     }
     if (place > part->length) {
         memset(part->bytes + part->length, 0, place - part->length);
@@ -111,19 +105,16 @@ static int disk_size(void *context, enum hunkravy_part which, uint64_t *size)
 
 static int disk_resize(void *context, enum hunkravy_part which, uint64_t size)
 {
-    struct disk *disk = (struct disk *)context;
     HOLDS(which == HUNKRAVY_PART_JOURNAL && size == 0);
-    if (is_stopped(disk)) {
-        return STOPPED;
-    }
-    disk->part[which].length = 0;
+    ((struct disk *)context)->part[which].length = 0;
     return 0;
 }
 
 static int disk_sync(void *context, enum hunkravy_part which)
 {
+    (void)context;
     (void)which;
-    return is_stopped((struct disk *)context) ? STOPPED : 0;
+    return 0;
 }
 
 static int disk_random(void *context, uint8_t *bytes, size_t length)
@@ -208,7 +199,6 @@ static void check_calls(uint32_t variant, uint32_t page_size)
     hunkravy_file *file;
 
     memset(&disk, 0, sizeof disk);
-    disk.calls_left = ALL;
     model.length = committed.length = 0;
     HOLDS(hunkravy_file_create_in(&file, &storage, variant, key, klen, page_size) == 0);
     for (int turn = 0; turn < 3000; turn++) {
@@ -252,45 +242,7 @@ static void check_calls(uint32_t variant, uint32_t page_size)
     HOLDS(hunkravy_file_close(file) == 0);
 }
 
-/* ---- A commit that stops */
-
-/*
- * Stops a commit at each of its calls. Before the first write to the file nothing has changed, if the journal could be
- * emptied; otherwise the next opening completes it, or leaves out all of it.
- */
-static void check_stops(void)
-{
-    static struct disk disk, from;
-    static struct model before, after;
-    struct hunkravy_storage storage = over(&disk);
-    hunkravy_file *file;
-    int code = STOPPED, is_made = 0;
-
-    from.calls_left = ALL;
-    disk = from;
-    HOLDS(hunkravy_file_create_in(&file, &storage, HUNKRAVY_AEGIS256, key, sizeof key, 256) == 0);
-    HOLDS(change(file, &before, 6000) == 0 && hunkravy_file_close(file) == 0);
-    from = disk;
-    for (int calls = 0; code != 0; calls++) {
-        HOLDS(calls < 20);
-        disk = from;
-        after = before;
-        HOLDS(hunkravy_file_open_in(&file, &storage, HUNKRAVY_AEGIS256, key, sizeof key) == 0);
-        HOLDS(hunkravy_file_write(file, 0, "after", 5) == 0);
-        set_length(&after, before.length < 5 ? 5 : before.length);
-        memcpy(after.bytes, "after", 5);
-        disk.calls_left = calls;
-        code = hunkravy_file_commit(file);
-        HOLDS(code == 0 || (code == STOPPED && hunkravy_file_check(file) == HUNKRAVY_FILE_BROKEN));
-        disk.calls_left = ALL;
-        HOLDS(hunkravy_file_close(file) == (code == 0 ? 0 : HUNKRAVY_FILE_BROKEN));
-        HOLDS(hunkravy_file_open_in(&file, &storage, HUNKRAVY_AEGIS256, key, sizeof key) == 0);
-        /* It is made from the last byte of the journal on. */
-        is_made = is_made || calls >= 3;
-        check_equal(file, is_made ? &after : &before);
-        HOLDS(hunkravy_file_close(file) == 0 && disk.part[HUNKRAVY_PART_JOURNAL].length == 0);
-    }
-}
+/* ---- The bytes of a page */
 
 /* After the contents a page has zeros, and nothing of the memory that it was made in. */
 static void check_zeros(void)
@@ -302,7 +254,6 @@ static void check_zeros(void)
     uint32_t size;
     hunkravy_file *file;
 
-    disk.calls_left = ALL;
     HOLDS(hunkravy_file_create_in(&file, &storage, HUNKRAVY_AEGIS256, key, sizeof key, 256) == 0);
     HOLDS(hunkravy_file_write(file, 2, "contents", 8) == 0 && hunkravy_file_close(file) == 0);
     HOLDS(hunkravy_page_header_open(HUNKRAVY_AEGIS256, disk.part[HUNKRAVY_PART_FILE].bytes, key, sizeof key, &size, id,
@@ -337,7 +288,6 @@ static void begin_scene(struct scene *scene)
     kill_scene(scene);
     memset(&scene->disk, 0, sizeof scene->disk);
     scene->first = scene->last = 0;
-    scene->disk.calls_left = ALL;
     HOLDS(hunkravy_file_create_in(&scene->file, &storage, HUNKRAVY_AEGIS256, key, sizeof key, 0) == 0);
 }
 
@@ -362,6 +312,15 @@ static int has_contents(hunkravy_file *file, const char *expected)
     return length == bytes.length && memcmp(found, bytes.at, length) == 0;
 }
 
+static int has_stored(struct disk disk, const char *expected)
+{
+    struct hunkravy_storage storage = over(&disk);
+    hunkravy_file *file;
+    disk.is_full = 0;
+    HOLDS(hunkravy_file_open_in(&file, &storage, HUNKRAVY_AEGIS256, key, sizeof key) == 0);
+    return has_contents(file, expected) && hunkravy_file_close(file) == 0;
+}
+
 /* Takes the number of the batch that a line names. */
 static uint64_t named_batch(struct scene *scene, int is_outer)
 {
@@ -371,58 +330,53 @@ static uint64_t named_batch(struct scene *scene, int is_outer)
     return scene->ended = scene->batches[is_outer ? scene->first++ : --scene->last];
 }
 
-static int has_stored(const struct disk *from, const char *expected)
-{
-    static struct disk disk;
-    struct hunkravy_storage storage = over(&disk);
-    hunkravy_file *file;
-    int is_right;
-    disk = *from;
-    disk.is_full = 0;
-    HOLDS(hunkravy_file_open_in(&file, &storage, HUNKRAVY_AEGIS256, key, sizeof key) == 0);
-    is_right = has_contents(file, expected);
-    HOLDS(hunkravy_file_close(file) == 0);
-    return is_right;
-}
-
-/* Makes the call of a line, which has these words, and returns whether its result is right. */
-static int is_right_line(struct scene *scene, char **words)
+/* Makes the call of a line, which has these words, and returns its code. */
+static int made(struct scene *scene, char **words)
 {
     static struct bytes data;
     hunkravy_file *file = scene->file;
-    const char *call = words[0], *result = words[1];
-    uint64_t number = result == NULL ? 0 : strtoull(result, NULL, 10);
-    int code = 0;
+    const char *call = words[0];
+    uint64_t number = words[1] == NULL ? 0 : strtoull(words[1], NULL, 10);
     if (strcmp(call, "begin") == 0) {
-        code = hunkravy_file_begin(file, &scene->batches[scene->last++]);
-    } else if (strncmp(call, "end", 3) == 0) {
-        code = hunkravy_file_end(file, named_batch(scene, call[3] == '-'));
-    } else if (strncmp(call, "undo", 4) == 0) {
-        hunkravy_file_undo(file, named_batch(scene, call[4] == '-'));
-    } else if (strcmp(call, "write") == 0) {
+        return hunkravy_file_begin(file, &scene->batches[scene->last++]);
+    }
+    if (strncmp(call, "end", 3) == 0) {
+        return hunkravy_file_end(file, named_batch(scene, call[3] == '-'));
+    }
+    if (strcmp(call, "write") == 0) {
         read_bytes(&data, words[2]);
-        code = hunkravy_file_write(file, number, data.at, data.length);
-        result = words[3];
-    } else if (strcmp(call, "truncate") == 0) {
-        code = hunkravy_file_truncate(file, number);
-        result = words[2];
-    } else if (strcmp(call, "commit") == 0) {
-        code = hunkravy_file_commit(file);
-    } else if (strcmp(call, "discard") == 0) {
-        hunkravy_file_discard(file);
-    } else if (strcmp(call, "close") == 0) {
-        code = hunkravy_file_close(file);
+        return hunkravy_file_write(file, number, data.at, data.length);
+    }
+    if (strcmp(call, "truncate") == 0) {
+        return hunkravy_file_truncate(file, number);
+    }
+    if (strcmp(call, "commit") == 0) {
+        return hunkravy_file_commit(file);
+    }
+    if (strcmp(call, "close") == 0) {
         scene->file = NULL;
-    } else if (strcmp(call, "contents") == 0) {
-        return has_contents(file, words[1]);
-    } else if (strcmp(call, "stored") == 0) {
-        return has_stored(&scene->disk, words[1]);
+        return hunkravy_file_close(file);
+    }
+    if (strncmp(call, "undo", 4) == 0) {
+        hunkravy_file_undo(file, named_batch(scene, call[4] == '-'));
     } else {
-        HOLDS(strcmp(call, "no-room") == 0 || strcmp(call, "room") == 0);
-        scene->disk.is_full = call[0] == 'n';
+        HOLDS(strcmp(call, "discard") == 0);
+        hunkravy_file_discard(file);
+    }
+    return 0;
+}
+
+static int is_right_line(struct scene *scene, char **words, size_t count)
+{
+    if (strstr(words[0], "room") != NULL) {
+        scene->disk.is_full = words[0][0] == 'n';
         return 1;
     }
-    return strcmp(name_of(code), result) == 0;
+    if (strcmp(words[0], "contents") == 0) {
+        return has_contents(scene->file, words[1]);
+    }
+    return strcmp(words[0], "stored") == 0 ? has_stored(scene->disk, words[1])
+                                           : strcmp(name_of(made(scene, words)), words[count - 1]) == 0;
 }
 
 static void check_batches(void)
@@ -431,6 +385,7 @@ static void check_batches(void)
     FILE *table = fopen("testkit/batches.txt", "r");
     char line[200], *words[MOST_FIELDS];
     unsigned long scenes = 0;
+    size_t count;
 
     HOLDS(table != NULL);
     while (fgets(line, sizeof line, table) != NULL) {
@@ -438,7 +393,7 @@ static void check_batches(void)
         if (line[0] == '[') {
             begin_scene(&scene);
             scenes++;
-        } else if (line[0] != '#' && split(line, words) > 0 && !is_right_line(&scene, words)) {
+        } else if (line[0] != '#' && (count = split(line, words)) > 0 && !is_right_line(&scene, words, count)) {
             fprintf(stderr, "testkit/batches.txt:%d: another result\n", scene.line);
             HOLDS(!"what the table has");
         }
@@ -462,7 +417,6 @@ static void check_memory(void)
     if (__real_malloc == NULL) {
         return;
     }
-    disk.calls_left = ALL;
     HOLDS(hunkravy_file_create_in(&file, &storage, HUNKRAVY_AEGIS256, key, sizeof key, 256) == 0);
     for (int turn = 0; turn < 20000; turn++) {
         uint64_t kind = draw(8);
@@ -564,7 +518,6 @@ int main(void)
     check_batches();
     check_zeros();
     check_memory();
-    check_stops();
     printf("random-access files: %lu checks\n", checks);
     return EXIT_SUCCESS;
 }
