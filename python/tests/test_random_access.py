@@ -175,19 +175,6 @@ class Files(unittest.TestCase):
             with self.subTest(number=number):
                 Scene(self.folder / str(number)).play(scene)
 
-    def test_a_journal_of_another_file(self) -> None:
-        RandomAccessFile.create(self.path, KEY).close()
-        self.leave_journal(self.path)
-        journal = (self.folder / "file.journal").read_bytes()
-        other = self.folder / "other"
-        RandomAccessFile.create(other, KEY, page_size=PAGE).close()
-        for data in (journal, journal[:600]):
-            (self.folder / "other.journal").write_bytes(data)
-            self.assertCause("journal", RandomAccessFile, other, KEY)
-            self.assertEqual((self.folder / "other.journal").read_bytes(), data)
-        (self.folder / "other.journal").write_bytes(journal[:512])
-        self.assertEqual(contents(other), b"")
-
     def test_a_batch_that_is_left_open(self) -> None:
         with RandomAccessFile.create(self.path, KEY) as file:
             file.write_at(0, b"before")
@@ -350,11 +337,9 @@ class Files(unittest.TestCase):
         self.leave_journal(path)
         self.assertEqual(contents(path)[-5:], b"after")
 
-    def test_damage_and_wrong_keys(self) -> None:
+    def test_damage(self) -> None:
         with RandomAccessFile.create(self.path, KEY) as file:
             file.write_at(0, bytes(9000))
-        self.assertCause("header", RandomAccessFile, self.path, bytes(32))
-        self.assertCause("header", RandomAccessFile, self.path, bytes(16), cipher=Aegis128L)
         data = bytearray(self.path.read_bytes())
         data[4096 * 2 + 50] ^= 1
         self.path.write_bytes(data)
@@ -421,6 +406,13 @@ class Files(unittest.TestCase):
         # Closing raises the error once more, and commits nothing.
         self.assertRaises(OSError, file.close)
         self.assertEqual(contents(self.path), bytes(9000))
+        # Without room for a copy of its journal a file does not open.
+        self.leave_journal(self.path)
+        before = {path: path.read_bytes() for path in self.folder.iterdir()}
+        with limited(1000):
+            self.assertRaises(OSError, RandomAccessFile, self.path, KEY)
+        self.assertEqual({path: path.read_bytes() for path in self.folder.iterdir()}, before)
+        self.assertEqual(contents(self.path)[-5:], b"after")
 
     def test_threads(self) -> None:
         def work(number: Any) -> Any:
