@@ -34,8 +34,7 @@ fn store() {
     let [key, other, file] = ["key", "other", "file"].map(|name| folder.join(name).to_str().unwrap().to_owned());
     fs::write(&key, [1; 32]).unwrap();
     fs::write(&other, [2; 32]).unwrap();
-    let missing = run("store", &[&key, &file]);
-    assert!(!missing.status.success() && !Path::new(&file).exists());
+    assert!(!run("store", &[&key, &file]).status.success() && !Path::new(&file).exists());
     assert_eq!(printed("store", &[&key, &file, "b=1"]), "b=1\n");
     assert_eq!(printed("store", &[&key, &file, "a=2"]), "a=2\nb=1\n");
     assert_eq!(printed("store", &[&key, &file, "b="]), "a=2\nb=\n");

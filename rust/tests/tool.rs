@@ -1,6 +1,7 @@
 //! Files of the program `hunkravy`, of which `HUNKRAVY_TOOL` has the path: each opens what the other has sealed. The tests of the
 //! Python package give the program damaged files, parts and key files.
 
+#[allow(dead_code)]
 #[path = "sealed/random.rs"]
 mod random;
 #[allow(dead_code)]
@@ -39,8 +40,7 @@ fn files_of_each_other() {
         fs::write(folder.join("in"), &contents).unwrap();
         done(&["seal", "-q", "--force", "-k", "key", "in", "sealed"]);
         let sealed = fs::read(folder.join("sealed")).unwrap();
-        let prefix = sealed.first_chunk().unwrap();
-        assert!(sealed == sealed_in_pieces(&key, prefix, &contents));
+        assert!(sealed == sealed_in_pieces(&key, sealed.first_chunk().unwrap(), &contents));
         let mut opened = Vec::new();
         SealedReader::new(&sealed[..], &key).read_to_end(&mut opened).unwrap();
         assert!(opened == contents);

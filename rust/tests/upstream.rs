@@ -32,8 +32,7 @@ macro_rules! programs {
                 let tag: Tag<32> = session.encryptor.finalize();
                 session.decryptor.update(&ciphertext[..7])?;
                 session.decryptor.update(&ciphertext[7..])?;
-                let plaintext = session.decryptor.finalize(&tag)?;
-                assert_eq!(plaintext, b"AEGIS is fast");
+                assert_eq!(session.decryptor.finalize(&tag)?, b"AEGIS is fast");
                 Ok(())
             }
 

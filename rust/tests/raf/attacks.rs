@@ -102,8 +102,7 @@ fn a_link_to_no_file_and_a_journal() {
     fs::write(folder.path("in/file.journal"), b"something").unwrap();
     assert_eq!(outcome(folder.create_over()), "Journal");
     assert!(!folder.path("in/file").exists());
-    let journal = fs::read(folder.path("in/file.journal"));
-    assert_eq!(journal.unwrap(), b"something");
+    assert_eq!(fs::read(folder.path("in/file.journal")).unwrap(), b"something");
 }
 
 /// Bytes after the last page are read by nobody, and are written over when the text grows.
@@ -124,8 +123,7 @@ fn bytes_after_the_last_page() {
 #[test]
 fn a_page_of_one_byte() {
     let text = [&[1; 256][..], &[2, 0, 3, 3, 3]].concat();
-    let disks = Disks::with(&text[..257]);
-    let mut file = disks.open().unwrap();
+    let mut file = Disks::with(&text[..257]).open().unwrap();
     file.write(&[3; 3], 258).unwrap();
     assert_eq!(text_of(&mut file), text);
 }

@@ -16,8 +16,7 @@ fn file() -> (Bytes, Vec<u8>) {
 /// The file after a commit that was cut short, and the contents after that commit.
 fn cut(calls: usize) -> (Bytes, Vec<u8>) {
     let (bytes, text) = file();
-    let cut = cut_short(&bytes, &[1; 500], 300, calls).bytes();
-    (cut, [&text[..300], &[1; 500]].concat())
+    (cut_short(&bytes, &[1; 500], 300, calls).bytes(), [&text[..300], &[1; 500]].concat())
 }
 
 fn with(bytes: &Bytes, change: impl FnOnce(&mut Bytes)) -> Bytes {

@@ -28,8 +28,7 @@ fn mac(bytes: &[u8]) -> [u8; 16] {
 /// The file of 1,000 bytes of 5, in pages of 256 bytes.
 fn small_file() -> Vec<u8> {
     let disks = Disks::new();
-    let builder = disks.builder().rng(counter(None));
-    let mut file = builder.create(disks.file.clone(), &KEY).unwrap();
+    let mut file = disks.builder().rng(counter(None)).create(disks.file.clone(), &KEY).unwrap();
     file.write(&[5; 1000], 0).unwrap();
     drop(file);
     disks.bytes().0
@@ -38,8 +37,7 @@ fn small_file() -> Vec<u8> {
 /// The proved crate writes the same file by the same nonces: its test `the_small_file` compares with this MAC too.
 #[test]
 fn the_small_file() {
-    let expected = 0x425f54648db03d686f548f9cf1cdc2b9_u128;
-    assert_eq!(mac(&small_file()), expected.to_be_bytes());
+    assert_eq!(mac(&small_file()), 0x425f54648db03d686f548f9cf1cdc2b9_u128.to_be_bytes());
 }
 
 /// A derived key is the MAC of a text of 24 bytes and of the context.
@@ -53,8 +51,7 @@ fn derived_keys() {
         assert_eq!(derive_key(&KEY, context).unwrap(), key);
         let derived = Raf::<Aegis256>::derive_master_key(&KEY, context);
         assert_eq!(derived.unwrap(), key);
-        let derived = Raf::<Aegis256X4>::derive_master_key(&KEY, context);
-        assert_eq!(derived.unwrap(), key);
+        assert_eq!(Raf::<Aegis256X4>::derive_master_key(&KEY, context).unwrap(), key);
     }
     for context in [&b""[..], &[1; 120]] {
         let mut mac = Aegis128LMac::<16>::new(&[5; 16]);
@@ -70,8 +67,7 @@ fn derived_keys() {
 #[test]
 fn a_commit_of_the_small_file() {
     let disks = Disks::of((small_file(), Vec::new()));
-    let builder = disks.builder().rng(counter(Some(1 << 21)));
-    let mut file = builder.open(disks.file.clone(), &KEY).unwrap();
+    let mut file = disks.builder().rng(counter(Some(1 << 21))).open(disks.file.clone(), &KEY).unwrap();
     file.write(&[6; 1300], 0).unwrap();
     // All is done but to empty the journal.
     disks.leave(9);
@@ -79,6 +75,5 @@ fn a_commit_of_the_small_file() {
     let (changed, journal) = disks.bytes();
     let expected = 0x48971bac031d93fc7970a6c44381ef1e_u128;
     assert_eq!(mac(&journal), expected.to_be_bytes());
-    let expected = 0xc1c8c6485a0a2b1dfaade9c5f0f24ef1_u128;
-    assert_eq!(mac(&changed), expected.to_be_bytes());
+    assert_eq!(mac(&changed), 0xc1c8c6485a0a2b1dfaade9c5f0f24ef1_u128.to_be_bytes());
 }

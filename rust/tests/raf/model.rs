@@ -55,8 +55,7 @@ impl<A: Algorithm> Model<A> {
         let builder = RafBuilder::with_rng(Random(self.random.next()));
         let builder = builder.buffer_limit(self.limit);
         let builder = builder.journal(self.disks.journal.clone());
-        let opened = builder.open(self.disks.file.clone(), &self.key);
-        self.file = opened.unwrap();
+        self.file = builder.open(self.disks.file.clone(), &self.key).unwrap();
     }
 
     fn step(&mut self) {

