@@ -159,8 +159,7 @@ impl Aegis {
             let row: [Block; 8] = from_fn(|row| self.rows[row][lane]);
             let at = 16 * lane;
             if self.is_256 {
-                let sum = row[1].xor(row[4]).xor(row[5]);
-                store(sum.xor(row[2].and(row[3])), &mut first[at..]);
+                store(row[1].xor(row[4]).xor(row[5]).xor(row[2].and(row[3])), &mut first[at..]);
             } else {
                 let (one, other) = (row[6].xor(row[1]), row[2].xor(row[5]));
                 store(one.xor(row[2].and(row[3])), &mut first[at..]);

@@ -70,6 +70,5 @@ pub fn check_lengths(variant: u32, nonce: usize, key: usize, message: usize, dat
 
 /// Whether two tags are the same, in a time that does not depend on where they differ.
 pub fn is_same(one: &[u8], other: &[u8]) -> bool {
-    let pairs = one.iter().zip(other);
-    one.len() == other.len() && pairs.fold(0, |bits, (a, b)| bits | (a ^ b)) == 0
+    one.len() == other.len() && one.iter().zip(other).fold(0, |bits, (a, b)| bits | (a ^ b)) == 0
 }

@@ -51,8 +51,7 @@ fn hunkravy_proved_decrypt_in_place(
 ) {
     check_lengths(v, nlen, klen, mclen, adlen, maclen)?;
     let (key, nonce, data) = (input(k, klen), input(n, nlen), input(ad, adlen));
-    let is_right = decrypt(v, key, nonce, &[data], output(mc, mclen), input(mac, maclen));
-    check(is_right, INVALID_TAG)
+    check(decrypt(v, key, nonce, &[data], output(mc, mclen), input(mac, maclen)), INVALID_TAG)
 }
 
 fn hunkravy_proved_stream(v: u32, out: Out, len: usize, n: In, nlen: usize, k: In, klen: usize) {

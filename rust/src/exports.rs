@@ -247,8 +247,7 @@ mod tests {
     #[test]
     fn states_that_were_dropped() {
         let mut st = State::ENDED;
-        let begun = state_init(3, &mut st, b"", &[2; 32], &[1; 32]);
-        assert!(begun.is_ok() && st != State::ENDED);
+        assert!(state_init(3, &mut st, b"", &[2; 32], &[1; 32]).is_ok() && st != State::ENDED);
         assert_eq!(left_of(st, |st| st), State::ENDED);
     }
 

@@ -264,8 +264,7 @@ impl<A: Algorithm, I: RafIo, R: RafRng, J: RafIo> Raf<A, I, R, J> {
     ///
     /// [`Error::Commitment`] if it is not, [`Error::Io`] or [`Error::Broken`].
     pub fn verify(&mut self, expected: &[u8; 32]) -> Result<()> {
-        let mac = self.engine.commitment()?;
-        mac.verify(expected).map_err(|_| Error::Commitment)
+        self.engine.commitment()?.verify(expected).map_err(|_| Error::Commitment)
     }
 }
 

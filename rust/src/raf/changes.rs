@@ -71,8 +71,7 @@ impl Changes {
     /// Returns the numbers below `count` of the pages, the lowest first.
     pub fn numbers(&self, count: u64) -> io::Result<Vec<u64>> {
         let mut numbers = with_room(self.0.iter().map(Layer::len).sum())?;
-        let all = self.0.iter().flat_map(Layer::keys);
-        numbers.extend(all.filter(|number| **number < count));
+        numbers.extend(self.0.iter().flat_map(Layer::keys).filter(|number| **number < count));
         numbers.sort_unstable();
         numbers.dedup();
         Ok(numbers)
@@ -117,8 +116,7 @@ impl Changes {
 
     /// Begins a batch, and returns how many it is in.
     pub fn begin_batch(&mut self) -> io::Result<usize> {
-        let reserved = self.0.try_reserve(1);
-        reserved.map_err(|_| ErrorKind::OutOfMemory)?;
+        self.0.try_reserve(1).map_err(|_| ErrorKind::OutOfMemory)?;
         self.0.push(Layer::default());
         Ok(self.0.len() - 2)
     }
@@ -142,8 +140,7 @@ impl Changes {
 }
 
 fn reserve(layer: &mut Layer, count: usize) -> io::Result<()> {
-    let reserved = layer.try_reserve(count);
-    Ok(reserved.map_err(|_| ErrorKind::OutOfMemory)?)
+    Ok(layer.try_reserve(count).map_err(|_| ErrorKind::OutOfMemory)?)
 }
 
 /// Changed pages that are sealed where they are, for a commit. If it is dropped they are opened again.

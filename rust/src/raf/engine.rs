@@ -149,8 +149,7 @@ impl<A: Algorithm, I: RafIo, R: RafRng, J: RafIo> Engine<A, I, R, J> {
         let (mut number, mut at) = (offset / chunk_size, (offset % chunk_size) as usize);
         let mut rest = &mut buf[..count];
         while !rest.is_empty() {
-            let most = self.layout.page_count((at + rest.len()) as u64);
-            let shown = self.show_pages(number, most)?;
+            let shown = self.show_pages(number, self.layout.page_count((at + rest.len()) as u64))?;
             number += shown.len() as u64;
             let pages = self.pages.chunks_exact_mut(self.layout.page_bytes());
             for page in pages.take(shown.end).skip(shown.start) {
@@ -237,8 +236,7 @@ impl<A: Algorithm, I: RafIo, R: RafRng, J: RafIo> Engine<A, I, R, J> {
         if !self.owner.is_this() {
             return Err(Error::Locked);
         }
-        let count = self.layout.page_count(self.size);
-        let numbers = self.changes.numbers(count)?;
+        let numbers = self.changes.numbers(self.layout.page_count(self.size))?;
         if numbers.is_empty() && self.size == self.stored {
             return Ok(());
         }
@@ -428,8 +426,7 @@ impl<A: Algorithm, I: RafIo, R: RafRng, J: RafIo> Engine<A, I, R, J> {
         mac.update(&self.stored.to_le_bytes());
         for number in 0..self.layout.page_count(self.stored) {
             let mut tag = [0; TAG_BYTES];
-            let end = self.layout.page_place(number + 1);
-            self.io.read_at(&mut tag, end - TAG_BYTES as u64)?;
+            self.io.read_at(&mut tag, self.layout.page_place(number + 1) - TAG_BYTES as u64)?;
             mac.update(&tag);
         }
         Ok(mac)
@@ -460,8 +457,7 @@ mod tests {
         let header = PageHeader { page_size: 256, ..PageHeader::default() };
         let layout = Layout::<Aegis256>::of(&[7; 32], &header);
         std::fs::write(path, layout.header(counter, size, &[1; 32])).unwrap();
-        let builder = RafBuilder::new().journal(NoJournal);
-        builder.open_file(path, &[7; 32]).unwrap()
+        RafBuilder::new().journal(NoJournal).open_file(path, &[7; 32]).unwrap()
     }
 
     /// The counter of commits does not begin again.

@@ -205,8 +205,7 @@ impl FileIo {
 
     fn with(options: &mut OpenOptions, path: &Path) -> Result<Self> {
         check_memory()?;
-        let file = options.read(true).write(true).open(path)?;
-        Ok(Self::of(file, Some(resolved(path)?)))
+        Ok(Self::of(options.read(true).write(true).open(path)?, Some(resolved(path)?)))
     }
 
     /// Returns whether this process has opened it.
@@ -716,8 +715,7 @@ pub mod tests {
 
     impl Paths {
         pub fn new(name: &str) -> Self {
-            let name = format!("hunkravy-{name}-{}", std::process::id());
-            let path = std::env::temp_dir().join(name);
+            let path = std::env::temp_dir().join(format!("hunkravy-{name}-{}", std::process::id()));
             let journal = with_journal(&path);
             Paths(path, journal)
         }

@@ -81,8 +81,7 @@ impl<I: RafIo, J: RafIo> Work<'_, I, J> {
     /// Writes the journal after its beginning.
     fn write_rest(&mut self) -> io::Result<()> {
         let mut place = BEGINNING_BYTES as u64;
-        let rest = &self.bytes[BEGINNING_BYTES..];
-        pass_content(self.state, rest, self.writes, |bytes| {
+        pass_content(self.state, &self.bytes[BEGINNING_BYTES..], self.writes, |bytes| {
             self.neighbours.write(self.journal, place, bytes)?;
             place += bytes.len() as u64;
             Ok(())
@@ -108,8 +107,7 @@ fn pass_content(
     pass(rest)?;
     for write in writes {
         let mut head = [0; HEAD_BYTES];
-        let answer = journal_entry(state, write.place, write.bytes, &mut head);
-        answer.map_err(too_long)?;
+        journal_entry(state, write.place, write.bytes, &mut head).map_err(too_long)?;
         pass(&head)?;
         pass(write.bytes)?;
     }
@@ -171,8 +169,7 @@ impl Neighbours {
 pub fn checked_writes<'j, A: Algorithm>(file: &[u8], key: &A::Key, journal: &'j [u8]) -> Result<&'j [u8], Refusal> {
     let mut length = 0;
     journal_check(A::NUMBER, file, key.as_ref(), journal, &mut length)?;
-    let writes = journal.get(START_BYTES..).unwrap_or(&[]);
-    Ok(&writes[..length])
+    Ok(&journal.get(START_BYTES..).unwrap_or(&[])[..length])
 }
 
 /// The writes in the part of a journal that has them.

@@ -81,8 +81,7 @@ impl<A: Algorithm> Layout<A> {
 
     /// Opens the page of this number. If it was not sealed under it, each byte is erased.
     pub fn open(&self, number: u64, page: &mut [u8]) -> bool {
-        let answer = exports::page_open(A::NUMBER, page, &self.id, number, self.key.0.as_ref());
-        answer.is_ok()
+        exports::page_open(A::NUMBER, page, &self.id, number, self.key.0.as_ref()).is_ok()
     }
 
     /// Returns the block of the header of this counter, for contents of `size` bytes.

@@ -36,8 +36,7 @@ impl FileStart {
             Some(_) => BEGINNING_BYTES,
             None => COMMON_BYTES,
         };
-        let layout = Layout::<A>::of(key, self.header.as_ref().unwrap_or(&any));
-        let own = layout.journal(&[0; NONCE_BYTES]);
+        let own = Layout::<A>::of(key, self.header.as_ref().unwrap_or(&any)).journal(&[0; NONCE_BYTES]);
         found.starts_with(&own.start[..known])
     }
 
@@ -97,8 +96,7 @@ pub fn recover<A: Algorithm>(io: &mut impl RafIo, journal: &mut impl RafIo, key:
         // What has its name by now was not read.
         return Err(Error::Journal);
     }
-    let header = FileStart::read::<A>(io, key)?.header;
-    header.ok_or(Error::Io(io::ErrorKind::InvalidData.into()))
+    FileStart::read::<A>(io, key)?.header.ok_or(Error::Io(io::ErrorKind::InvalidData.into()))
 }
 
 /// Reads the header block, or returns `None` if there are fewer bytes.

@@ -55,8 +55,7 @@ impl<'c> Opener<'c> {
     pub fn new(key: &Key, prefix: &Prefix, context: &'c [u8], header: &[u8]) -> Result<Self, Error> {
         let known = <&[u8; HEADER_BYTES]>::try_from(header).unwrap_or(&[0; HEADER_BYTES]);
         let mut opener = Self::of(Position::default());
-        let begun = record_begin_open(&mut opener.records, key, prefix, context, known);
-        begun.map_err(of_begin)?;
+        record_begin_open(&mut opener.records, key, prefix, context, known).map_err(of_begin)?;
         Ok(opener)
     }
 
@@ -86,8 +85,7 @@ impl<'c> Opener<'c> {
     pub fn begin_at(key: &Key, prefix: &Prefix, context: &'c [u8], position: Position) -> Result<Self, Error> {
         let mut opener = Self::of(position);
         let (st, Position { number, before }) = (&mut opener.records, position);
-        let begun = record_begin_open_at(st, key, prefix, context, number, before);
-        begun.map_err(of_begin)?;
+        record_begin_open_at(st, key, prefix, context, number, before).map_err(of_begin)?;
         Ok(opener)
     }
 
@@ -136,8 +134,7 @@ impl<'c> Opener<'c> {
         let length = self.first_len(bytes)?;
         let (record, rest) = bytes.split_at(length);
         let mut message = Vec::new();
-        let reserved = message.try_reserve_exact(length);
-        reserved.map_err(|_| Error::OutOfMemory)?;
+        message.try_reserve_exact(length).map_err(|_| Error::OutOfMemory)?;
         message.extend_from_slice(record);
         let is_last = self.open(&mut message)?;
         message.copy_within(RECORD_HEAD_BYTES.., 0);
