@@ -8,6 +8,7 @@
 #include "hunkravy_pages.h"
 #include "hunkravy_records.h"
 
+#include <errno.h>
 #include <stdio.h>
 #include <stdlib.h>
 #include <string.h>
@@ -280,6 +281,26 @@ static inline size_t for_each_line(const char *folder, const char *name,
     fclose(answers);
     HOLDS(count > 0);
     return count;
+}
+
+/* ---- Random-access files */
+
+/* Whether a code is the result that the tables of testkit name so. */
+static inline int has_result(int code, const char *name)
+{
+    static const struct {
+        int code;
+        const char *name;
+    } results[] = {{0, "ok"}, {0, "trusted"}, {EINVAL, "rejected"}, {ENOSPC, "no-room"},
+                   {HUNKRAVY_FILE_MOVED, "moved"}, {HUNKRAVY_FILE_LOCKED, "locked"},
+                   {HUNKRAVY_WRONG_JOURNAL, "wrong-journal"}, {HUNKRAVY_OPEN_BATCH, "open-batch"},
+                   {HUNKRAVY_WRONG_STATE, "wrong-state"}, {HUNKRAVY_FILE_TOO_LONG, "too-long"}};
+    for (size_t i = 0; i < COUNT(results); i++) {
+        if (strcmp(results[i].name, name) == 0) {
+            return code == results[i].code;
+        }
+    }
+    return strcmp(name, "failed") == 0 && code > 0;
 }
 
 /* ---- Record streams */

@@ -1,6 +1,6 @@
 /*
- * Random-access files. Random calls are made to a file and to a model of it, and those of testkit/batches.txt. Each allocation
- * fails by turns. The tests of the Cargo package run over this engine too, and testkit/disk tests what crashes leave.
+ * Random-access files. The calls of testkit/batches.txt are made, and random ones to a file and to a model of it, in which each
+ * allocation fails by turns. The tests of the Cargo package run over this engine too, and testkit/disk tests what crashes leave.
  */
 #ifndef _DEFAULT_SOURCE
 #define _DEFAULT_SOURCE
@@ -187,61 +187,6 @@ static int change(hunkravy_file *file, struct model *model, size_t most)
     return code;
 }
 
-/* Makes random calls, with batches in batches. */
-static void check_calls(uint32_t variant, uint32_t page_size)
-{
-    enum { DEPTH = 5 };
-    static struct disk disk;
-    static struct model model, committed, saved[DEPTH];
-    uint64_t batches[DEPTH] = {0}, depth = 0;
-    struct hunkravy_storage storage = over(&disk);
-    size_t klen = hunkravy_key_bytes(variant);
-    hunkravy_file *file;
-
-    memset(&disk, 0, sizeof disk);
-    model.length = committed.length = 0;
-    HOLDS(hunkravy_file_create_in(&file, &storage, variant, key, klen, page_size) == 0);
-    for (int turn = 0; turn < 3000; turn++) {
-        uint64_t kind = draw(20), to;
-        if (kind < 10) {
-            HOLDS(change(file, &model, 12000) == 0);
-        } else if (kind < 12 && depth < DEPTH) {
-            saved[depth] = model;
-            HOLDS(hunkravy_file_begin(file, &batches[depth++]) == 0);
-        } else if (kind < 14 && depth > 0) {
-            to = draw(depth);
-            hunkravy_file_undo(file, batches[to]);
-            model = saved[depth = to];
-        } else if (kind < 16 && depth > 0) {
-            to = draw(4) ? depth - 1 : draw(depth);
-            if (to == depth - 1) {
-                HOLDS(hunkravy_file_end(file, batches[--depth]) == 0);
-                committed = depth == 0 ? model : committed;
-            } else {
-                HOLDS(hunkravy_file_end(file, batches[to]) == HUNKRAVY_OPEN_BATCH);
-                model = saved[depth = to];
-            }
-            HOLDS(hunkravy_file_end(file, batches[to]) == HUNKRAVY_WRONG_STATE);
-        } else if (kind == 16) {
-            HOLDS(hunkravy_file_commit(file) == (depth == 0 ? 0 : HUNKRAVY_OPEN_BATCH));
-            committed = depth == 0 ? model : committed;
-        } else if (kind == 17 && draw(4) == 0) {
-            hunkravy_file_discard(file);
-            model = committed;
-            depth = 0;
-        } else if (kind == 18 && draw(4) == 0) {
-            HOLDS(hunkravy_file_close(file) == (depth == 0 ? 0 : HUNKRAVY_OPEN_BATCH));
-            model = committed = depth == 0 ? model : committed;
-            depth = 0;
-            HOLDS(hunkravy_file_open_in(&file, &storage, variant, key, klen) == 0);
-        }
-        HOLDS(hunkravy_file_open_batches(file) == depth);
-        check_equal(file, &model);
-    }
-    hunkravy_file_discard(file);
-    HOLDS(hunkravy_file_close(file) == 0);
-}
-
 /* ---- The bytes of a page */
 
 /* After the contents a page has zeros, and nothing of the memory that it was made in. */
@@ -289,16 +234,6 @@ static void begin_scene(struct scene *scene)
     memset(&scene->disk, 0, sizeof scene->disk);
     scene->first = scene->last = 0;
     HOLDS(hunkravy_file_create_in(&scene->file, &storage, HUNKRAVY_AEGIS256, key, sizeof key, 0) == 0);
-}
-
-static const char *name_of(int code)
-{
-    return code == 0                     ? "ok"
-        : code == HUNKRAVY_OPEN_BATCH    ? "open-batch"
-        : code == HUNKRAVY_WRONG_STATE   ? "wrong-state"
-        : code == HUNKRAVY_FILE_TOO_LONG ? "too-long"
-        : code == ENOSPC                 ? "no-room"
-                                         : "another code";
 }
 
 /* Compares contents with the hexadecimal bytes of a line. */
@@ -376,7 +311,7 @@ static int is_right_line(struct scene *scene, char **words, size_t count)
         return has_contents(scene->file, words[1]);
     }
     return strcmp(words[0], "stored") == 0 ? has_stored(scene->disk, words[1])
-                                           : strcmp(name_of(made(scene, words)), words[count - 1]) == 0;
+                                           : has_result(made(scene, words), words[count - 1]);
 }
 
 static void check_batches(void)
@@ -463,6 +398,7 @@ static void check_system(void)
     char folder[] = "/tmp/check_file-XXXXXX", path[80], journal[90];
     hunkravy_file *file, *second;
     uint8_t mac[2][HUNKRAVY_FILE_COMMITMENT_BYTES];
+    uint64_t batch;
     size_t length;
     int fd;
 
@@ -487,6 +423,9 @@ static void check_system(void)
         HOLDS(draw(20) != 0 || hunkravy_file_commit(file) == 0);
         check_equal(file, &model);
     }
+    HOLDS(hunkravy_file_open_batches(file) == 0 && hunkravy_file_begin(file, &batch) == 0);
+    HOLDS(hunkravy_file_open_batches(file) == 1 && hunkravy_file_end(file, batch) == 0);
+    HOLDS(hunkravy_file_open_batches(file) == 0);
     HOLDS(hunkravy_file_write(file, UINT64_MAX, "x", 1) == HUNKRAVY_FILE_TOO_LONG);
     HOLDS(hunkravy_file_write(file, UINT64_C(1) << 59, "x", 1) == ENOMEM);
     /* A change has failed, so closing it would commit nothing. */
@@ -511,9 +450,6 @@ static void check_system(void)
 
 int main(void)
 {
-    for (size_t i = 0; i < 6; i++) {
-        check_calls((uint32_t)i, i % 2 == 0 ? 256 : 0);
-    }
     check_system();
     check_batches();
     check_zeros();

@@ -31,21 +31,6 @@ static int open_at(const char *at, hunkravy_file **file)
     return hunkravy_file_open(file, at, HUNKRAVY_AEGIS256, key, sizeof key);
 }
 
-static int has_result(int code, const char *name)
-{
-    static const struct {
-        int code;
-        const char *name;
-    } results[] = {{0, "ok"}, {0, "trusted"}, {EINVAL, "rejected"}, {HUNKRAVY_FILE_MOVED, "moved"},
-        {HUNKRAVY_FILE_LOCKED, "locked"}, {HUNKRAVY_WRONG_JOURNAL, "wrong-journal"}};
-    for (size_t i = 0; i < COUNT(results); i++) {
-        if (strcmp(results[i].name, name) == 0) {
-            return code == results[i].code;
-        }
-    }
-    return strcmp(name, "failed") == 0 && code > 0;
-}
-
 static void remove_all(void)
 {
     for (size_t i = 0; i < COUNT(paths); i++) {

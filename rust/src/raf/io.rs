@@ -739,21 +739,6 @@ pub mod tests {
         assert_eq!(fs::read(path).unwrap(), b"precious");
     }
 
-    /// A process keeps its lock when a copy of it in another process is dropped.
-    #[test]
-    fn locks_of_another_process() {
-        let Paths(path, _) = &Paths::new("locks");
-        let mut io = FileIo::create(path).unwrap();
-        io.lock().unwrap();
-        let in_this_one = io.file.try_clone().unwrap();
-        io.owner = None;
-        drop(io);
-        let mut other = FileIo::open(path).unwrap();
-        assert!(other.lock().is_err());
-        drop(in_this_one);
-        assert!(other.lock().is_ok());
-    }
-
     /// A new journal is for its owner alone until it has the mode of its file. It takes no other file and follows no link. Opening
     /// rejects any other file than was found.
     #[test]

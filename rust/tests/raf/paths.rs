@@ -6,7 +6,6 @@ use std::collections::HashSet;
 use std::fs;
 use std::io::{Read, Seek, SeekFrom, Write};
 use std::os::unix::fs::symlink;
-use std::process::Command;
 
 /// A whole journal that lies beside a file is completed, and a torn one is left out; both are then gone. A new file is not made over
 /// a journal.
@@ -88,25 +87,6 @@ fn the_bytes_of_the_system() {
         let values: HashSet<u8> = draws.iter().map(|drawn| drawn[place]).collect();
         assert!(values.len() > 20, "{place}: {values:?}");
     }
-}
-
-/// This test runs itself again: another process gets other bytes from the system, and so does the next one.
-#[test]
-fn the_bytes_of_another_process() {
-    const VARIABLE: &str = "HUNKRAVY_SHOWS_RANDOM";
-    let mut drawn = [0; 16];
-    OsRng.fill(&mut drawn).unwrap();
-    if std::env::var_os(VARIABLE).is_some() {
-        eprintln!("{drawn:?}");
-        return;
-    }
-    let shown = || {
-        let mut test = Command::new(std::env::current_exe().unwrap());
-        test.args(["paths::the_bytes_of_another_process", "--nocapture"]);
-        test.env(VARIABLE, "1").output().unwrap().stderr
-    };
-    let first = shown();
-    assert!(first.len() > 30 && first != shown());
 }
 
 /// The id of a file, and the nonce of each header and page, are drawn.
