@@ -1,12 +1,11 @@
 /*
- * Seals standard input to a record stream, in pieces of 64 KiB, and opens one. Both read their
- * input once, so it may be a pipe, and the opener writes no byte before its tag is verified:
+ * Seals standard input to a record stream, in pieces of 64 KiB, and opens one. Both read their input once, so it may be
+ * a pipe, and the opener writes no byte before its tag is verified:
  *
  *     records seal KEYFILE < plain > sealed
  *     records open KEYFILE < sealed > plain
  *
- * A key file has 32 bytes. If the opener fails, what it has written is only the beginning of what
- * was sealed.
+ * A key file has 32 bytes. If the opener fails, what it has written is only the beginning of what was sealed.
  *
  * cc records.c $(pkg-config --cflags --libs hunkravy)
  */

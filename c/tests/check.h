@@ -1,6 +1,4 @@
-/*
- * What the test programs of this folder share: results, bytes, the variants and the stored lines.
- */
+/* What the test programs of this folder share: results, bytes, the variants and the stored lines. */
 #ifndef CHECK_H
 #define CHECK_H
 

@@ -36,8 +36,7 @@ impl<V: Variant, const TAG_BYTES: usize> Mac<V, TAG_BYTES> {
         Self::new_with_nonce(key, &V::Nonce::default())
     }
 
-    /// Begins a MAC under a key and a nonce. `TAG_BYTES` is 16 or 32: with another length the program
-    /// does not compile.
+    /// Begins a MAC under a key and a nonce. `TAG_BYTES` is 16 or 32: with another length the program does not compile.
     pub fn new_with_nonce(key: &V::Key, nonce: &V::Nonce) -> Self {
         assert_tag_bytes::<TAG_BYTES>();
         let mut state = State::ENDED;

@@ -6,9 +6,7 @@ use hunkravy as aegis;
 macro_rules! programs {
     ($($module:ident $cipher:ident $mac:ident $key_bytes:literal,)*) => {$(
         mod $module {
-            use super::aegis::$module::{
-                $cipher, $mac, Decryptor, Encryptor, Key, Nonce, Tag,
-            };
+            use super::aegis::$module::{$cipher, $mac, Decryptor, Encryptor, Key, Nonce, Tag};
 
             const KEY: Key = [7; $key_bytes];
             const NONCE: Nonce = [9; $key_bytes];

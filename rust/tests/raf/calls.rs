@@ -138,8 +138,7 @@ fn the_limit_on_changes() {
 #[test]
 fn the_default_limit() {
     let disks = Disks::new();
-    let builder = RafBuilder::<Aegis128X2>::new().chunk_size(65_536);
-    let mut file = builder.create(disks.file.clone(), &[7; 16]).unwrap();
+    let mut file = RafBuilder::<Aegis128X2>::new().chunk_size(65_536).create(disks.file.clone(), &[7; 16]).unwrap();
     let count = disks.calls();
     file.write(&vec![1; 16 << 20], 0).unwrap();
     assert_eq!(disks.calls(), count);
@@ -207,8 +206,7 @@ fn the_calls_of_a_recovery() {
     };
     let journal = Before(disks.journal.clone(), sees(Part::Journal));
     let length = disks.bytes().1.len();
-    let builder = disks.builder().journal(journal);
-    let opened = builder.open(Before(disks.file.clone(), sees(Part::File)), &KEY);
+    let opened = disks.builder().journal(journal).open(Before(disks.file.clone(), sees(Part::File)), &KEY);
     assert_eq!(text_of(&mut opened.unwrap()), [1; 600]);
     let expected = format!(
         "File sync, Journal replace {length}, File write 0, File write 4096, File write 0, File sync, \
@@ -377,8 +375,7 @@ a commit failed: open the file again";
 #[test]
 fn builders_keep_what_was_set() {
     let disks = Disks::of((vec![1], Vec::new()));
-    let builder = RafBuilder::<Aegis256>::new().buffer_limit(0).truncate(true);
-    let builder = builder.chunk_size(300).rng(Random(5));
+    let builder = RafBuilder::<Aegis256>::new().buffer_limit(0).truncate(true).chunk_size(300).rng(Random(5));
     let mut file = builder.journal(disks.journal.clone()).create(disks.file.clone(), &KEY).unwrap();
     file.write(b"text", 0).unwrap();
     assert_eq!(disks.text(), b"text");
@@ -409,8 +406,7 @@ fn chunk_sizes() {
     }
     for bytes in [256, 257, 4032, 65_535, 65_536] {
         let disks = Disks::new();
-        let builder = RafBuilder::<Aegis128L>::new().chunk_size(bytes);
-        let mut file = builder.create(disks.file.clone(), &[7; 16]).unwrap();
+        let mut file = RafBuilder::<Aegis128L>::new().chunk_size(bytes).create(disks.file.clone(), &[7; 16]).unwrap();
         file.write(&[1, 2, 3], u64::from(bytes) - 1).unwrap();
         file.commit().unwrap();
         let found = probe(&mut disks.file.clone()).unwrap();
