@@ -20,12 +20,14 @@
 /* ---- Ending the program at the first wrong result */
 
 static unsigned long checks;
+/* The row of a table that is checked, if there is any. */
+static char row[240];
 
 static inline void holds(int fact, const char *what, const char *file, int line)
 {
     checks++;
     if (!fact) {
-        fprintf(stderr, "%s:%d: not so: %s\n", file, line, what);
+        fprintf(stderr, "%s:%d: not so: %s%s%s\n", file, line, what, row[0] == '\0' ? "" : ", in ", row);
         exit(EXIT_FAILURE);
     }
 }

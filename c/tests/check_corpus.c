@@ -169,15 +169,6 @@ static void check_pages(struct corpus_case *one)
 
 /* ---- The cases */
 
-static const char *current;
-
-static void name_current(void)
-{
-    if (current != NULL) {
-        fprintf(stderr, "in the case: %s\n", current);
-    }
-}
-
 static size_t check_all(const char *name, void (*check)(struct corpus_case *))
 {
     static struct corpus_case one;
@@ -196,9 +187,8 @@ static size_t check_all(const char *name, void (*check)(struct corpus_case *))
             read_field(&one, line);
             continue;
         }
-        current = one.name;
+        snprintf(row, sizeof row, "%s: %s", name, one.name);
         check(&one);
-        current = NULL;
         memset(&one, 0, sizeof one);
         count++;
     }
@@ -209,7 +199,6 @@ static size_t check_all(const char *name, void (*check)(struct corpus_case *))
 int main(void)
 {
     size_t records, sealed, pages;
-    HOLDS(atexit(name_current) == 0);
     records = check_all("records", check_records);
     sealed = check_all("sealed", check_sealed);
     pages = check_all("random-access", check_pages);

@@ -67,15 +67,13 @@ impl Script {
         for variable in
             ["HUNKRAVY_LIB_DIR", "PKG_CONFIG", "PKG_CONFIG_PATH", "PKG_CONFIG_LIBDIR", "PKG_CONFIG_SYSROOT_DIR"]
         {
-            let line = format!("cargo::rerun-if-env-changed={variable}");
-            assert!(printed.contains(&line), "{printed:?}");
+            assert!(printed.contains(&format!("cargo::rerun-if-env-changed={variable}")), "{printed:?}");
         }
         let found = printed.iter().filter(|line| line.contains("link-search"));
         let shown = folder.map_or("lib".to_owned(), |folder| folder.display().to_string());
         let expected = folder.map(|_| format!("cargo::rustc-link-search=native={shown}"));
         assert!(found.eq(&expected), "{printed:?}");
-        let again = format!("cargo::rerun-if-changed={shown}/libhunkravy.a");
-        assert!(printed.contains(&again), "{printed:?}");
+        assert!(printed.contains(&format!("cargo::rerun-if-changed={shown}/libhunkravy.a")), "{printed:?}");
         assert_eq!(has("cargo::warning="), folder.is_none(), "{printed:?}");
     }
 
@@ -267,8 +265,7 @@ fn stream_struct_has_the_size_of_the_header() {
     let exports = include_str!("../src/exports.rs");
     let (_, words) = exports.split_once("OPAQUE_WORDS: usize = ").unwrap();
     let words = words.split(';').next().unwrap();
-    let header = include_str!("../../c/include/hunkravy_records.h");
-    assert!(header.contains(&format!("uint64_t opaque[{words}]")));
+    assert!(include_str!("../../c/include/hunkravy_records.h").contains(&format!("uint64_t opaque[{words}]")));
 }
 
 /// Cargo links the library into a program once: two versions of the package are an error.

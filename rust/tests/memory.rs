@@ -193,8 +193,7 @@ fn record_of_lies() {
     file.push(0);
     file.extend(200_000_u32.to_le_bytes());
     let mut reader = SealedReader::new(Lies(&file), &[7; 32]);
-    let error = std::io::copy(&mut reader, &mut std::io::sink()).unwrap_err();
-    assert_eq!(error.kind(), ErrorKind::InvalidData);
+    assert_eq!(std::io::copy(&mut reader, &mut std::io::sink()).unwrap_err().kind(), ErrorKind::InvalidData);
 }
 
 /// A sealed file takes a record and what is constant. A record that is announced takes no more than twice what is there of

@@ -182,34 +182,3 @@ pub fn journaled_writes(mut part: &[u8]) -> impl Iterator<Item = PendingWrite<'_
         Some(PendingWrite { place, bytes })
     })
 }
-
-#[cfg(test)]
-mod tests {
-    use super::{PendingWrite, checked_writes, journaled_writes, pass_content};
-    use crate::raf::Aegis256;
-    use crate::raf::layout::{HEADER_BLOCK_BYTES, Layout, PageHeader};
-
-    /// A journal has only writes within the longest file.
-    #[test]
-    fn writes_within_the_longest_file() {
-        let header = PageHeader { page_size: 4032, ..PageHeader::default() };
-        let begun = || Layout::<Aegis256>::of(&[3; 32], &header).journal(&[2; 16]);
-        for (place, is_within) in [(0, true), ((1 << 63) - 4, true), ((1 << 63) - 3, false), (u64::MAX, false)] {
-            let (bytes, mut begun) = (&[4; 3], begun());
-            let mut journal = begun.start[..512].to_vec();
-            let (rest, writes) = (&begun.start[512..], &[PendingWrite { place, bytes }]);
-            let passed = pass_content(&mut begun.state, rest, writes, |bytes| {
-                journal.extend_from_slice(bytes);
-                Ok(())
-            });
-            assert_eq!(passed.is_ok(), is_within);
-            if is_within {
-                // The file has no header, so any whole journal is accepted.
-                let file = [0; HEADER_BLOCK_BYTES];
-                let part = checked_writes::<Aegis256>(&file, &[3; 32], &journal).unwrap();
-                let writes = journaled_writes(part).map(|write| (write.place, write.bytes));
-                assert!(writes.eq([(place, &bytes[..])]));
-            }
-        }
-    }
-}

@@ -49,8 +49,7 @@ fn derived_keys() {
         mac.update(&[text, context].concat());
         let key = mac.finalize();
         assert_eq!(derive_key(&KEY, context).unwrap(), key);
-        let derived = Raf::<Aegis256>::derive_master_key(&KEY, context);
-        assert_eq!(derived.unwrap(), key);
+        assert_eq!(Raf::<Aegis256>::derive_master_key(&KEY, context).unwrap(), key);
         assert_eq!(Raf::<Aegis256X4>::derive_master_key(&KEY, context).unwrap(), key);
     }
     for context in [&b""[..], &[1; 120]] {
@@ -73,7 +72,6 @@ fn a_commit_of_the_small_file() {
     disks.leave(9);
     assert!(file.commit().is_err());
     let (changed, journal) = disks.bytes();
-    let expected = 0x48971bac031d93fc7970a6c44381ef1e_u128;
-    assert_eq!(mac(&journal), expected.to_be_bytes());
+    assert_eq!(mac(&journal), 0x48971bac031d93fc7970a6c44381ef1e_u128.to_be_bytes());
     assert_eq!(mac(&changed), 0xc1c8c6485a0a2b1dfaade9c5f0f24ef1_u128.to_be_bytes());
 }

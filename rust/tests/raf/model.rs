@@ -52,8 +52,7 @@ impl<A: Algorithm> Model<A> {
         // Its changes are forgotten, so that dropping it commits none.
         self.file.discard();
         let builder = RafBuilder::with_rng(Random(self.random.next())).buffer_limit(self.limit);
-        let opened = builder.journal(self.disks.journal.clone()).open(self.disks.file.clone(), &self.key);
-        self.file = opened.unwrap();
+        self.file = builder.journal(self.disks.journal.clone()).open(self.disks.file.clone(), &self.key).unwrap();
     }
 
     fn step(&mut self) {

@@ -82,8 +82,7 @@ fn mode_in_a_commit(path: &Path) -> u32 {
         }
         Ok(())
     };
-    let io = Before(FileIo::open(path).unwrap(), looks);
-    let mut file = RafBuilder::<Aegis256>::new().open(io, &KEY).unwrap();
+    let mut file = RafBuilder::<Aegis256>::new().open(Before(FileIo::open(path).unwrap(), looks), &KEY).unwrap();
     file.write(b"text", 0).unwrap();
     file.commit().unwrap();
     mode.get()

@@ -119,8 +119,7 @@ fn refused_before_anything_is_changed() {
     folder.create().unwrap().write(b"kept", 0).unwrap();
     let created = over().chunk_size(65_537).create_file(&path, &KEY);
     assert_eq!(outcome(created), "ChunkSize");
-    let created = over().rng(failing(1)).create_file(&path, &KEY);
-    assert_eq!(outcome(created), "UnexpectedEof");
+    assert_eq!(outcome(over().rng(failing(1)).create_file(&path, &KEY)), "UnexpectedEof");
     assert_eq!(outcome(folder.create()), "AlreadyExists");
     assert_eq!(folder.text(), b"kept");
     assert_eq!(folder.create_over().unwrap().size(), 0);
@@ -146,8 +145,7 @@ fn refused_after_a_file_was_made() {
     }
     // One that is there already is kept, and so is one that another program opens meanwhile.
     fs::write(folder.file(), b"").unwrap();
-    let created = over().journal(used()).create_file(folder.file(), &KEY);
-    assert_eq!(outcome(created), "Journal");
+    assert_eq!(outcome(over().journal(used()).create_file(folder.file(), &KEY)), "Journal");
     assert_eq!(folder.names(), ["file"]);
     let links = |at| match at {
         At::Sync => Ok(fs::hard_link(folder.path("new"), folder.path("other"))?),

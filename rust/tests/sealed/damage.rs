@@ -46,8 +46,7 @@ fn read_in_any_lengths() {
     for damaged in damaged() {
         for inner_most in [1, 3, 64, usize::MAX] {
             for most in [1, 2, 7, 100_000] {
-                let inner = Before(&damaged.bytes[..], slow(inner_most));
-                let mut reader = SealedReader::new(inner, &damaged.key);
+                let mut reader = SealedReader::new(Before(&damaged.bytes[..], slow(inner_most)), &damaged.key);
                 check(&damaged, read_all(&mut reader, most));
                 stays(&damaged, &mut reader);
             }

@@ -90,8 +90,7 @@ fn step(random: &mut Random, reader: &mut (impl BufRead + Seek), expected: &mut 
 /// Places that no contents have.
 #[test]
 fn places_out_of_bounds() {
-    let file = sealed_in_pieces(&key(), &PREFIX, &[1; 100]);
-    let mut reader = SealedReader::new(Cursor::new(file), &key());
+    let mut reader = SealedReader::new(Cursor::new(sealed_in_pieces(&key(), &PREFIX, &[1; 100])), &key());
     reader.seek(Start(50)).unwrap();
     for to in [Current(-51), End(-101), Current(i64::MIN), End(i64::MIN)] {
         assert_eq!(reader.seek(to).unwrap_err().kind(), ErrorKind::InvalidInput);

@@ -179,8 +179,7 @@ fn writers_that_panic() {
 #[test]
 fn records_of_any_lengths() {
     let longest = vec![3; MAX_MESSAGE_BYTES];
-    let lengths = [70_000, 0, 200_000, MAX_MESSAGE_BYTES, 5, 1];
-    let messages: [&[u8]; 6] = lengths.map(|length| &longest[..length]);
+    let messages: [&[u8]; 6] = [70_000, 0, 200_000, MAX_MESSAGE_BYTES, 5, 1].map(|length| &longest[..length]);
     let file = sealed(&key(), &[9; 24], &messages);
     assert!(read(&file).unwrap() == messages.concat());
     let mut reader = SealedReader::new(&file[..], &key());
