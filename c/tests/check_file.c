@@ -436,6 +436,9 @@ static void check_system(void)
     HOLDS(hunkravy_file_commit(file) == 0 && hunkravy_file_commitment(file, mac[1]) == 0);
     HOLDS(memcmp(mac[0], mac[1], sizeof mac[0]) != 0);
     HOLDS(hunkravy_file_close(file) == 0);
+    HOLDS(hunkravy_file_open(&file, path, HUNKRAVY_AEGIS256, key, sizeof key) == 0);
+    HOLDS(hunkravy_file_commitment(file, mac[0]) == 0 && memcmp(mac[0], mac[1], sizeof mac[0]) == 0);
+    HOLDS(hunkravy_file_close(file) == 0);
     /* A long journal of another file is rejected before there is memory for it. */
     fd = open(journal, O_WRONLY | O_CREAT | O_EXCL, 0600);
     HOLDS(fd >= 0 && ftruncate(fd, (off_t)1 << 40) == 0 && close(fd) == 0);
