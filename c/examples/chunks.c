@@ -64,11 +64,8 @@ static int read_chunks(hunkravy_state *state, FILE *out, FILE *encrypted, const 
     int code;
 
     while ((length = fread(chunk, 1, CHUNK_BYTES, encrypted)) != 0) {
-        if (out == NULL) {
-            code = hunkravy_state_decrypt_check(state, chunk, length);
-        } else {
-            code = hunkravy_state_decrypt_in_place_unverified(state, chunk, length);
-        }
+        code = out == NULL ? hunkravy_state_decrypt_check(state, chunk, length)
+                           : hunkravy_state_decrypt_in_place_unverified(state, chunk, length);
         if (code != HUNKRAVY_OK || (out != NULL && fwrite(chunk, 1, length, out) != length)) {
             return -1;
         }

@@ -7,7 +7,6 @@ import concurrent.futures
 import contextlib
 import copy
 import errno
-import fcntl
 import gc
 import io
 import os
@@ -315,13 +314,6 @@ class Files(unittest.TestCase):
             with file.batch():
                 file.write_at(0, b"after")
         self.assertEqual(contents(self.path), b"after")
-
-    def test_a_file_that_is_being_created(self) -> None:
-        """Whoever has just created it locks it next, and must not find it locked."""
-        self.path.touch()
-        with self.path.open() as other:
-            fcntl.flock(other, fcntl.LOCK_EX)
-            self.assertCause("header", RandomAccessFile, self.path, KEY)
 
     def test_the_longest_name(self) -> None:
         path = self.path.with_name("x" * (255 - len(".journal")))

@@ -189,13 +189,10 @@ fn a_journal_that_is_replaced_as_it_is_read() {
 /// What is no file, or shorter than the first sector, has no header that is read without its key.
 #[test]
 fn files_that_are_none() {
-    let folder = Folder::with(b"");
-    let file = fs::read(folder.file()).unwrap();
-    let probed = || probe(&mut FileIo::open(folder.file()).unwrap());
-    assert_eq!(probed().unwrap().file_size, 512);
+    let (file, _) = Disks::with(b"").bytes();
+    assert_eq!(probe(&mut Disks::of((file.clone(), Vec::new())).file).unwrap().file_size, 512);
     for bytes in [b"", &file[..511], b"AGP1", &[0; 600], &[b"AGP2\x21\0\x10\0\0", &file[9..]].concat()] {
-        fs::write(folder.file(), bytes).unwrap();
-        assert_eq!(outcome(probed()), "Header");
+        assert_eq!(outcome(probe(&mut Disks::of((bytes.to_vec(), Vec::new())).file)), "Header");
     }
 }
 
