@@ -9,13 +9,7 @@ const FOLDER_VARIABLE: &str = "HUNKRAVY_LIB_DIR";
 const ARCHIVE: &str = "libhunkravy.a";
 
 fn main() {
-    for variable in [
-        FOLDER_VARIABLE,
-        "PKG_CONFIG",
-        "PKG_CONFIG_PATH",
-        "PKG_CONFIG_LIBDIR",
-        "PKG_CONFIG_SYSROOT_DIR",
-    ] {
+    for variable in [FOLDER_VARIABLE, "PKG_CONFIG", "PKG_CONFIG_PATH", "PKG_CONFIG_LIBDIR", "PKG_CONFIG_SYSROOT_DIR"] {
         println!("cargo::rerun-if-env-changed={variable}");
     }
     let target = env::var("TARGET").unwrap_or_default();
@@ -44,9 +38,7 @@ pub fn check_target(target: &str) -> Result<(), String> {
     if is_linux && PROCESSORS.iter().any(|known| known.0 == processor) {
         return Ok(());
     }
-    Err(format!(
-        "{ARCHIVE} is for Linux on x86_64 and aarch64, with glibc or musl, not for {target}"
-    ))
+    Err(format!("{ARCHIVE} is for Linux on x86_64 and aarch64, with glibc or musl, not for {target}"))
 }
 
 /// The processors of the targets, and the numbers that ELF has for them.
@@ -89,15 +81,13 @@ fn installed(program: &Path) -> Result<PathBuf, String> {
 /// The folder, if a library for the target's processor lies in it. Otherwise the error names who gave it.
 fn with_archive(folder: PathBuf, source: &str) -> Result<PathBuf, String> {
     let shown = folder.display();
-    let archive = fs::read(folder.join(ARCHIVE))
-        .map_err(|_error| format!("{source} gives {shown}, which has no {ARCHIVE}"))?;
+    let archive =
+        fs::read(folder.join(ARCHIVE)).map_err(|_error| format!("{source} gives {shown}, which has no {ARCHIVE}"))?;
     // Cargo sets the variable. Without it the program is for this processor.
     let target = env::var("TARGET").unwrap_or_else(|_unset| env::consts::ARCH.to_owned());
     let (processor, _) = target.split_once('-').unwrap_or((&target, ""));
     if !PROCESSORS.contains(&(processor, machine(&archive))) {
-        return Err(format!(
-            "{source} gives {shown}, whose {ARCHIVE} is not for {processor}"
-        ));
+        return Err(format!("{source} gives {shown}, whose {ARCHIVE} is not for {processor}"));
     }
     folder.canonicalize().map_err(|error| error.to_string())
 }

@@ -40,10 +40,7 @@ fn changed(original: &[u8], input: &[u8]) -> Vec<u8> {
             0 => bytes.truncate(place),
             1 => bytes.insert(place, byte),
             2 if length < 1 << 20 => bytes.extend_from_within(place..),
-            _ => bytes[place..]
-                .iter_mut()
-                .take(1)
-                .for_each(|old| *old = byte),
+            _ => bytes[place..].iter_mut().take(1).for_each(|old| *old = byte),
         }
     }
     bytes
@@ -77,10 +74,7 @@ const OLD: &[u8] = &[b'o'; 900];
 const NEW: &[u8] = &[b'n'; 700];
 
 /// The bytes of a file before its second commit, and those of the journal of that commit.
-static FILE: LazyLock<Bytes> = LazyLock::new(|| {
-    let before = Disks::with(OLD).bytes();
-    cut_short(&before, NEW, 100, JOURNAL_CALLS).bytes()
-});
+static FILE: LazyLock<Bytes> = LazyLock::new(|| cut_short(&Disks::with(OLD).bytes(), NEW, 100, JOURNAL_CALLS).bytes());
 
 /// A file opens to its contents before or after a commit, or parts of them are rejected.
 fn random_access_file(of_file: &[u8], of_journal: &[u8]) {

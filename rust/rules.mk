@@ -14,7 +14,8 @@ check-rust-both: $(OUT)/both/libhunkravy.a check-raf-c
 	$(call CARGO,both) test --offline
 	if cargo clippy --version > /dev/null 2>&1 && cargo fmt --version > /dev/null 2>&1; then \
 		$(call CARGO,both) clippy --offline --all-targets -- -D warnings && \
-		cargo fmt --check && cd ../bench/package && cargo fmt --check && rustfmt --check --edition 2024 ../../standin/lib.rs ../../rust/fuzz.rs; \
+		cargo fmt --check && cd ../bench/package && cargo fmt --check && \
+		rustfmt --check --edition 2024 ../../standin/lib.rs ../../rust/fuzz.rs ../../testkit/disk/program.rs; \
 	else \
 		echo 'left out: the lints and the layout of the Cargo package, since cargo clippy or fmt is not installed'; \
 	fi
@@ -53,14 +54,10 @@ fuzz: $(OUT)/both/libhunkravy.a
 
 # ---- Random-access files
 
-# Whether the proved program and those over the packages and in C open what the others have left, after 200 kills and after
-# crashes that tear what was being written.
+# Whether the proved program and the example of the Cargo package recover what the other has left, after 200 kills.
 RAF = $(OUT)/raf
 
-check-raf: $(BATCHES) $(LIBRARY) python-package
-	rm -rf $(RAF)/left && mkdir -p $(RAF)/left
+check-raf: $(BATCHES) $(LIBRARY)
 	cd rust && export HUNKRAVY_LIB_DIR="$(CURDIR)/$(dir $(LIBRARY))" CARGO_TARGET_DIR="$(CURDIR)/$(RAF)/cargo" && \
-		cargo build --offline --example batches && \
-		HUNKRAVY_BATCHES="$(CURDIR)/$(RAF)/left" cargo test --offline --test raf each_call_of_two_batches
-	$(CC) -std=c99 $(C_FLAGS) -O2 c/tests/check_file.c $(LIBRARY) -o $(RAF)/check_file
-	tools/check_batches.sh $(BATCHES) $(RAF)/cargo/debug/examples/batches $(RAF)/left $(RAF)/check_file $(OUT)/python
+		cargo build --offline --example batches
+	tools/check_batches.sh $(BATCHES) $(RAF)/cargo/debug/examples/batches

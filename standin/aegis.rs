@@ -6,12 +6,8 @@ use core::array::from_fn;
 /// A row: a block for each lane.
 type Row = [Block; 4];
 
-const C0: [u8; 16] = [
-    0x00, 0x01, 0x01, 0x02, 0x03, 0x05, 0x08, 0x0d, 0x15, 0x22, 0x37, 0x59, 0x90, 0xe9, 0x79, 0x62,
-];
-const C1: [u8; 16] = [
-    0xdb, 0x3d, 0x18, 0x55, 0x6d, 0xc2, 0x2f, 0xf1, 0x20, 0x11, 0x31, 0x42, 0x73, 0xb5, 0x28, 0xdd,
-];
+const C0: [u8; 16] = [0x00, 0x01, 0x01, 0x02, 0x03, 0x05, 0x08, 0x0d, 0x15, 0x22, 0x37, 0x59, 0x90, 0xe9, 0x79, 0x62];
+const C1: [u8; 16] = [0xdb, 0x3d, 0x18, 0x55, 0x6d, 0xc2, 0x2f, 0xf1, 0x20, 0x11, 0x31, 0x42, 0x73, 0xb5, 0x28, 0xdd];
 
 fn block(bytes: &[u8]) -> Block {
     Block::load(bytes.first_chunk().unwrap())
@@ -48,11 +44,7 @@ pub struct Aegis {
 impl Aegis {
     /// The state of this variant whose rows are zeros.
     fn blank(variant: u32) -> Self {
-        Aegis {
-            rows: [[zero(); 4]; 8],
-            lanes: [1, 2, 4][variant as usize % 3],
-            is_256: variant >= 3,
-        }
+        Aegis { rows: [[zero(); 4]; 8], lanes: [1, 2, 4][variant as usize % 3], is_256: variant >= 3 }
     }
 
     /// The state of a variant in the form that [`save`](Self::save) gives.
@@ -127,11 +119,7 @@ impl Aegis {
 
     /// How many bytes are absorbed together.
     pub fn rate(&self) -> usize {
-        if self.is_256 {
-            16 * self.lanes
-        } else {
-            32 * self.lanes
-        }
+        if self.is_256 { 16 * self.lanes } else { 32 * self.lanes }
     }
 
     /// One round of each lane that is used. AEGIS-256 ignores the second row.
@@ -171,8 +159,7 @@ impl Aegis {
             let row: [Block; 8] = from_fn(|row| self.rows[row][lane]);
             let at = 16 * lane;
             if self.is_256 {
-                let sum = row[1].xor(row[4]).xor(row[5]);
-                store(sum.xor(row[2].and(row[3])), &mut first[at..]);
+                store(row[1].xor(row[4]).xor(row[5]).xor(row[2].and(row[3])), &mut first[at..]);
             } else {
                 let (one, other) = (row[6].xor(row[1]), row[2].xor(row[5]));
                 store(one.xor(row[2].and(row[3])), &mut first[at..]);
@@ -185,11 +172,7 @@ impl Aegis {
     fn finish(&mut self, lanes: usize, first: u64, second: u64) {
         let mut row = self.rows[if self.is_256 { 3 } else { 2 }];
         for (lane, own) in row.iter_mut().enumerate() {
-            *own = if lane < lanes {
-                own.xor(numbers(first, second))
-            } else {
-                zero()
-            };
+            *own = if lane < lanes { own.xor(numbers(first, second)) } else { zero() };
         }
         for _ in 0..7 {
             self.update(row, row);
@@ -198,9 +181,7 @@ impl Aegis {
 
     /// The tag of one lane. A short one is the first block.
     fn lane_tag(&self, lane: usize, is_long: bool) -> [Block; 2] {
-        let sum = |rows: core::ops::Range<usize>| {
-            rows.fold(zero(), |sum, row| sum.xor(self.rows[row][lane]))
-        };
+        let sum = |rows: core::ops::Range<usize>| rows.fold(zero(), |sum, row| sum.xor(self.rows[row][lane]));
         match (self.is_256, is_long) {
             (true, false) => [sum(0..6), zero()],
             (true, true) => [sum(0..3), sum(3..6)],
@@ -248,14 +229,7 @@ impl Aegis {
         }
         let count = size * (self.lanes - first);
         for pair in blocks[..count].chunks(if is_256 { 1 } else { 2 }) {
-            let row = |at: usize| {
-                [
-                    pair.get(at).copied().unwrap_or(zero()),
-                    zero(),
-                    zero(),
-                    zero(),
-                ]
-            };
+            let row = |at: usize| [pair.get(at).copied().unwrap_or(zero()), zero(), zero(), zero()];
             self.update(row(0), row(1));
         }
     }

@@ -61,14 +61,7 @@ pub fn check_tag(bytes: usize) -> Answer {
 }
 
 /// Checks all lengths of a message.
-pub fn check_lengths(
-    variant: u32,
-    nonce: usize,
-    key: usize,
-    message: usize,
-    data: usize,
-    tag: usize,
-) -> Answer {
+pub fn check_lengths(variant: u32, nonce: usize, key: usize, message: usize, data: usize, tag: usize) -> Answer {
     check_keys(variant, nonce, key)?;
     check(message as u64 <= MAX_BYTES, MESSAGE_TOO_LONG)?;
     check(data as u64 <= MAX_BYTES, DATA_TOO_LONG)?;
@@ -77,6 +70,5 @@ pub fn check_lengths(
 
 /// Whether two tags are the same, in a time that does not depend on where they differ.
 pub fn is_same(one: &[u8], other: &[u8]) -> bool {
-    let pairs = one.iter().zip(other);
-    one.len() == other.len() && pairs.fold(0, |bits, (a, b)| bits | (a ^ b)) == 0
+    one.len() == other.len() && one.iter().zip(other).fold(0, |bits, (a, b)| bits | (a ^ b)) == 0
 }

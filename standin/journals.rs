@@ -1,12 +1,8 @@
 //! The exports on the journal of a random-access file.
 
-use crate::code::{
-    FILE_TOO_LONG, INVALID_TAG, WRONG_JOURNAL, WRONG_RECORD_LENGTH, check, check_key, key_bytes,
-};
+use crate::code::{FILE_TOO_LONG, INVALID_TAG, WRONG_JOURNAL, WRONG_RECORD_LENGTH, check, check_key, key_bytes};
 use crate::message::{ENDED, Role, State};
-use crate::pages::{
-    HEADER_BLOCK_BYTES, ID_BYTES, PLAINTEXT_BYTES, check_header, header_bytes, header_in, plaintext,
-};
+use crate::pages::{HEADER_BLOCK_BYTES, ID_BYTES, PLAINTEXT_BYTES, check_header, header_bytes, header_in, plaintext};
 use crate::slices::{In, Out, exports, input, output};
 
 const MARK: [u8; 4] = *b"AGJ1";
@@ -72,9 +68,7 @@ fn ends_of(mut writes: &[u8]) -> Option<Ends<'_>> {
 
 /// The writes in a journal, if it is whole.
 fn writes_in<'j>(variant: u32, key: &[u8], journal: &'j [u8]) -> Option<&'j [u8]> {
-    let (nonce, rest) = journal
-        .get(BEGINNING_BYTES..)?
-        .split_first_chunk::<NONCE_BYTES>()?;
+    let (nonce, rest) = journal.get(BEGINNING_BYTES..)?.split_first_chunk::<NONCE_BYTES>()?;
     let (writes, mac) = rest.split_last_chunk::<MAC_BYTES>()?;
     let mut state = begin(variant, key, nonce);
     state.absorb(writes);
@@ -84,8 +78,7 @@ fn writes_in<'j>(variant: u32, key: &[u8], journal: &'j [u8]) -> Option<&'j [u8]
 
 /// Decides what is to be made of a journal: returns the length of the writes that are to be made again.
 fn judge(variant: u32, file: &[u8], key: &[u8], journal: &[u8]) -> Result<usize, i32> {
-    let writes =
-        writes_in(variant, key, journal).and_then(|writes| Some((writes, ends_of(writes)?)));
+    let writes = writes_in(variant, key, journal).and_then(|writes| Some((writes, ends_of(writes)?)));
     let whole = writes.map(|(writes, _)| writes.len());
     let Some(header) = header_in(variant, file, key) else {
         return whole.ok_or(INVALID_TAG);
@@ -93,9 +86,7 @@ fn judge(variant: u32, file: &[u8], key: &[u8], journal: &[u8]) -> Result<usize,
     let is_accepted = match writes {
         Some((_, ends)) => {
             let head = &file[..header_bytes(variant)];
-            ends.iter()
-                .flatten()
-                .any(|(place, bytes)| *place == 0 && bytes.starts_with(head))
+            ends.iter().flatten().any(|(place, bytes)| *place == 0 && bytes.starts_with(head))
         }
         None => {
             let own = beginning(variant, header.page_size, &header.id);

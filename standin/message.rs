@@ -30,15 +30,8 @@ pub struct State {
 }
 
 /// A state after its end.
-pub const ENDED: State = State {
-    mark: 0,
-    rows: [0; 512],
-    block: [0; 128],
-    data_bytes: 0,
-    message_bytes: 0,
-    variant: 0,
-    role: 0,
-};
+pub const ENDED: State =
+    State { mark: 0, rows: [0; 512], block: [0; 128], data_bytes: 0, message_bytes: 0, variant: 0, role: 0 };
 
 /// What is done with the bytes of a message.
 #[derive(Clone, Copy, PartialEq, Eq)]
@@ -52,13 +45,7 @@ enum Pass {
 impl State {
     /// Begins a state. Its lengths are right.
     pub fn begin(variant: u32, role: Role, key: &[u8], nonce: &[u8]) -> Self {
-        State {
-            mark: MARK,
-            rows: Aegis::new(variant, key, nonce).save(),
-            variant,
-            role: role as u32,
-            ..ENDED
-        }
+        State { mark: MARK, rows: Aegis::new(variant, key, nonce).save(), variant, role: role as u32, ..ENDED }
     }
 
     /// Begins a message with associated data, which come in parts.
@@ -80,18 +67,9 @@ impl State {
     pub fn check(&self, roles: &[Role], more: usize) -> Answer {
         let is_role = roles.iter().any(|role| *role as u32 == self.role);
         let is_mac = self.role >= Role::Mac as u32;
-        check(
-            self.mark == MARK && self.variant < 6 && is_role && (!is_mac || self.data_bytes == 0),
-            WRONG_STATE,
-        )?;
-        check(
-            self.message_bytes.max(self.data_bytes) <= MAX_BYTES,
-            WRONG_STATE,
-        )?;
-        check(
-            more as u64 <= MAX_BYTES - self.message_bytes,
-            MESSAGE_TOO_LONG,
-        )
+        check(self.mark == MARK && self.variant < 6 && is_role && (!is_mac || self.data_bytes == 0), WRONG_STATE)?;
+        check(self.message_bytes.max(self.data_bytes) <= MAX_BYTES, WRONG_STATE)?;
+        check(more as u64 <= MAX_BYTES - self.message_bytes, MESSAGE_TOO_LONG)
     }
 
     fn aegis(&self) -> Aegis {
@@ -181,28 +159,14 @@ impl State {
 }
 
 /// Encrypts a message in one call. All lengths are right.
-pub fn encrypt(
-    variant: u32,
-    key: &[u8],
-    nonce: &[u8],
-    data: &[&[u8]],
-    message: &mut [u8],
-    tag: &mut [u8],
-) {
+pub fn encrypt(variant: u32, key: &[u8], nonce: &[u8], data: &[&[u8]], message: &mut [u8], tag: &mut [u8]) {
     let mut state = State::begin_message(variant, key, nonce, data);
     state.encrypt(message);
     state.finish(tag);
 }
 
 /// Decrypts a message in one call, and returns whether this is its tag. Otherwise its bytes are erased.
-pub fn decrypt(
-    variant: u32,
-    key: &[u8],
-    nonce: &[u8],
-    data: &[&[u8]],
-    message: &mut [u8],
-    tag: &[u8],
-) -> bool {
+pub fn decrypt(variant: u32, key: &[u8], nonce: &[u8], data: &[&[u8]], message: &mut [u8], tag: &[u8]) -> bool {
     let mut state = State::begin_message(variant, key, nonce, data);
     state.decrypt(message);
     let is_right = state.is_finished_by(tag);

@@ -1,10 +1,7 @@
 //! The exports on messages, keystreams and MACs.
 
 use crate::aegis::Aegis;
-use crate::code::{
-    Answer, INVALID_TAG, WRONG_MESSAGE_LENGTH, check, check_keys, check_lengths, check_tag,
-    key_bytes,
-};
+use crate::code::{Answer, INVALID_TAG, WRONG_MESSAGE_LENGTH, check, check_keys, check_lengths, check_tag, key_bytes};
 use crate::message::{ENDED, Role, State, decrypt, encrypt};
 use crate::slices::{In, Out, exports, input, output};
 
@@ -54,8 +51,7 @@ fn hunkravy_proved_decrypt_in_place(
 ) {
     check_lengths(v, nlen, klen, mclen, adlen, maclen)?;
     let (key, nonce, data) = (input(k, klen), input(n, nlen), input(ad, adlen));
-    let is_right = decrypt(v, key, nonce, &[data], output(mc, mclen), input(mac, maclen));
-    check(is_right, INVALID_TAG)
+    check(decrypt(v, key, nonce, &[data], output(mc, mclen), input(mac, maclen)), INVALID_TAG)
 }
 
 fn hunkravy_proved_stream(v: u32, out: Out, len: usize, n: In, nlen: usize, k: In, klen: usize) {

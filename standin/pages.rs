@@ -1,8 +1,6 @@
 //! The exports on the pages and headers of random-access files.
 
-use crate::code::{
-    Answer, FILE_TOO_LONG, INVALID_TAG, WRONG_PAGE_SIZE, check, check_key, check_keys, key_bytes,
-};
+use crate::code::{Answer, FILE_TOO_LONG, INVALID_TAG, WRONG_PAGE_SIZE, check, check_key, check_keys, key_bytes};
 use crate::message::{decrypt, encrypt};
 use crate::slices::{In, Out, exports, input, output};
 
@@ -136,8 +134,7 @@ fn hunkravy_proved_page_header_open(
     v: u32, block: In, k: In, klen: usize, page_size: *mut u32, id: Out, counter: *mut u64, contents_bytes: *mut u64
 ) {
     check_key(v, klen)?;
-    let found = header_in(v, input(block, HEADER_BLOCK_BYTES), input(k, klen));
-    let header = found.ok_or(INVALID_TAG)?;
+    let header = header_in(v, input(block, HEADER_BLOCK_BYTES), input(k, klen)).ok_or(INVALID_TAG)?;
     *page_size = header.page_size;
     output(id, ID_BYTES).copy_from_slice(&header.id);
     *counter = header.counter;

@@ -1,8 +1,8 @@
 //! The exports on record streams, of version 2: AEGIS-256 with tags of 32 bytes.
 
 use crate::code::{
-    Answer, CONTEXT_TOO_LONG, INVALID_TAG, MAX_BYTES, MESSAGE_TOO_LONG, UNKNOWN_HEADER,
-    WRONG_RECORD_LENGTH, WRONG_STATE, check,
+    Answer, CONTEXT_TOO_LONG, INVALID_TAG, MAX_BYTES, MESSAGE_TOO_LONG, UNKNOWN_HEADER, WRONG_RECORD_LENGTH,
+    WRONG_STATE, check,
 };
 use crate::message::{decrypt, encrypt};
 use crate::slices::{In, Out, exports, input, output};
@@ -32,20 +32,12 @@ pub struct Stream {
     prefix: [u8; 24],
 }
 
-const ENDED: Stream = Stream {
-    role: 0,
-    number: 0,
-    before: 0,
-    key: [0; 32],
-    prefix: [0; 24],
-};
+const ENDED: Stream = Stream { role: 0, number: 0, before: 0, key: [0; 32], prefix: [0; 24] };
 
 impl Stream {
     /// Where the next record begins in the stream.
     fn place(&self) -> u128 {
-        HEADER.len() as u128
-            + ADDED_BYTES as u128 * u128::from(self.number)
-            + u128::from(self.before)
+        HEADER.len() as u128 + ADDED_BYTES as u128 * u128::from(self.number) + u128::from(self.before)
     }
 
     fn check(&self, role: u64) -> Answer {

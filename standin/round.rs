@@ -46,8 +46,7 @@ const fn table(row: u32) -> [u32; 256] {
     let mut byte = 0;
     while byte < 256 {
         let s = substitute(byte as u8);
-        let column = u32::from_le_bytes([times_two(s), s, s, times_two(s) ^ s]);
-        entries[byte] = column.rotate_left(8 * row);
+        entries[byte] = u32::from_le_bytes([times_two(s), s, s, times_two(s) ^ s]).rotate_left(8 * row);
         byte += 1;
     }
     entries
@@ -64,9 +63,7 @@ fn column(columns: [u32; 4]) -> u32 {
 impl Block {
     /// The block of sixteen bytes.
     pub fn load(bytes: &[u8; 16]) -> Self {
-        Block(core::array::from_fn(|at| {
-            u32::from_le_bytes(*bytes[4 * at..].first_chunk().unwrap())
-        }))
+        Block(core::array::from_fn(|at| u32::from_le_bytes(*bytes[4 * at..].first_chunk().unwrap())))
     }
 
     /// Writes its sixteen bytes.

@@ -1,19 +1,14 @@
 #!/bin/bash
-# check_batches.sh PROVED [RUST LEFT C]: kills programs that write to several rows of one encrypted file at once, by
-# turns, at 200 moments. After each kill another one recovers the file, and a copy of it: all rows must hold one number, the
-# same in both, and none that is older than the last one seen.
+# check_batches.sh PROVED [RUST]: kills programs that write to several rows of one encrypted file at once, by turns, at 200
+# moments. After each kill another one recovers the file, and a copy of it: all rows must hold one number, the same in both,
+# and none that is older than the last one seen.
 #
-# PROVED is the program of crates/example_batches, RUST the example batches of the Cargo package, and C the program check_file
-# of c/tests, whose engine is Python's too. LEFT is the folder that the Cargo package's test
-# `each_call_of_two_batches` has written: what made-up crashes have left, with any bytes where something was to be written. All
-# programs have to open that too.
+# PROVED is the program of crates/example_batches, and RUST the example batches of the Cargo package.
 set -euo pipefail
 
 proved=$(realpath "$1")
 rust=${2:+$(realpath "$2")}
-left=${3:+$(realpath "$3")}
-c=${4:+$(realpath "$4")}
-programs=(proved ${rust:+rust} ${c:+c})
+programs=(proved ${rust:+rust})
 folder=$(mktemp -d)
 trap 'rm -rf "$folder"' EXIT
 cd "$folder"
@@ -28,7 +23,6 @@ run() {
     case $1 in
         proved) exec "$proved" "$2" "$2.journal" "${@:3}" ;;
         rust) exec "$rust" "${@:2}" ;;
-        c) exec "$c" batches "${@:2}" ;;
     esac
 }
 
@@ -57,19 +51,3 @@ done
 [ "$last" -gt 0 ] || fail 'nothing was written'
 [ "$recovered" -gt 0 ] || fail 'no kill left a journal'
 echo "killed 200 times, $recovered times with a journal: $last batches, each whole or not there, by: ${programs[*]}"
-
-[ -n "$left" ] || exit 0
-by_proved=
-[ -s "$left/list" ] || fail "$left is empty"
-while read -r name before after; do
-    for program in "${programs[@]}"; do
-        cp "$left/$name" "$left/$name.journal" .
-        found=$(number "$program" "$name")
-        [ "$found" = "$before" ] || [ "$found" = "$after" ] ||
-            fail "$name holds $found by $program, and not $before or $after"
-        [ "$program" = proved ] || [ "$found" = "$by_proved" ] || fail "$name holds $found by $program, and not $by_proved"
-        by_proved=${by_proved:-$found}
-    done
-    by_proved=
-    rm "$name"
-done < "$left/list"

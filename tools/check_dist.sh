@@ -204,7 +204,7 @@ system=$work/system/usr
 use make --no-print-directory -C "$root" check-install "OUT=$out" "PREFIX=$folder"
 use make --no-print-directory -C "$root" check-install "OUT=$out" "PREFIX=$system" "LIBRARIES=$system/lib/x86_64-linux-gnu"
 if command -v cargo > /dev/null; then
-    use CARGO_TARGET_DIR=target cargo run -q --offline --manifest-path "$folder/rust/Cargo.toml" --example seal
+    use CARGO_TARGET_DIR=target cargo run -q --offline --manifest-path "$folder/rust/Cargo.toml" --example first
 fi
 for source in "$folder"/python/*.whl "$folder/python"; do
     rm -rf "$work/packages"

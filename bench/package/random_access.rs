@@ -14,10 +14,8 @@ const PAGE_BYTES: usize = 4032;
 const TURNS: usize = 41;
 
 /// The order in which pieces are written and read, and their bytes.
-const ORDERS: [(&str, usize, bool); 2] = [
-    ("in order, 64 KiB a call", 65536, false),
-    ("at random places, a page a call", PAGE_BYTES, true),
-];
+const ORDERS: [(&str, usize, bool); 2] =
+    [("in order, 64 KiB a call", 65536, false), ("at random places, a page a call", PAGE_BYTES, true)];
 
 /// What is measured. A piece may hold other bytes after it was written.
 trait Target {
@@ -88,10 +86,7 @@ struct Sizes {
 
 /// The places of the pieces. An odd factor gives each of a power of two of places once.
 fn places(text_bytes: u64, piece_bytes: u64, is_random: bool) -> impl Iterator<Item = u64> {
-    let (count, factor) = (
-        text_bytes / piece_bytes,
-        if is_random { 0x9E37_79B1 } else { 1 },
-    );
+    let (count, factor) = (text_bytes / piece_bytes, if is_random { 0x9E37_79B1 } else { 1 });
     (0..count).map(move |number| number * factor % count * piece_bytes)
 }
 
@@ -120,9 +115,7 @@ fn measure(
                 places().try_for_each(|at| target.write(at, &mut piece))?;
                 target.finish()
             })?;
-            turn(&row, "Reading", bytes, || {
-                places().try_for_each(|at| target.read(at, &mut piece))
-            })?;
+            turn(&row, "Reading", bytes, || places().try_for_each(|at| target.read(at, &mut piece)))?;
         }
     }
     Ok(())
@@ -151,19 +144,11 @@ fn measure_commitment(path: &str, sizes: &Sizes) -> Result<()> {
 
 fn main() -> Result<()> {
     let mut arguments = std::env::args().skip(1);
-    let path = &arguments
-        .next()
-        .ok_or(Error::Io(std::io::ErrorKind::InvalidInput.into()))?;
+    let path = &arguments.next().ok_or(Error::Io(std::io::ErrorKind::InvalidInput.into()))?;
     let sizes = if arguments.next().is_some() {
-        Sizes {
-            pages: 1 << 6,
-            committed: 1 << 20,
-        }
+        Sizes { pages: 1 << 6, committed: 1 << 20 }
     } else {
-        Sizes {
-            pages: 1 << 13,
-            committed: 1 << 30,
-        }
+        Sizes { pages: 1 << 13, committed: 1 << 30 }
     };
     let paths = ["no-journal", "plain"].map(|name| format!("{path}-{name}"));
     for order in &ORDERS {

@@ -36,10 +36,7 @@ static int encrypt_chunks(hunkravy_state *state, FILE *out, FILE *plain, uint8_t
     return !ferror(plain) && hunkravy_state_encrypt_final(state, tag, TAG_BYTES) == HUNKRAVY_OK ? 0 : -1;
 }
 
-/*
- * Writes `plain`, encrypted, to `out`. Returns 0, or -1 if a file or the system failed; discard the
- * output then.
- */
+/* Writes `plain`, encrypted, to `out`. Returns 0, or -1 if a file or the system failed; discard the output then. */
 static int encrypt_file(FILE *out, FILE *plain, const uint8_t *key)
 {
     uint8_t header[HEADER_BYTES] = {0};
@@ -67,11 +64,8 @@ static int read_chunks(hunkravy_state *state, FILE *out, FILE *encrypted, const 
     int code;
 
     while ((length = fread(chunk, 1, CHUNK_BYTES, encrypted)) != 0) {
-        if (out == NULL) {
-            code = hunkravy_state_decrypt_check(state, chunk, length);
-        } else {
-            code = hunkravy_state_decrypt_in_place_unverified(state, chunk, length);
-        }
+        code = out == NULL ? hunkravy_state_decrypt_check(state, chunk, length)
+                           : hunkravy_state_decrypt_in_place_unverified(state, chunk, length);
         if (code != HUNKRAVY_OK || (out != NULL && fwrite(chunk, 1, length, out) != length)) {
             return -1;
         }
@@ -106,10 +100,7 @@ static int decrypt_file(FILE *out, FILE *encrypted, const uint8_t *key)
     return pass(NULL, encrypted, key) == 0 && pass(out, encrypted, key) == 0 ? 0 : -1;
 }
 
-/*
- * Encrypts and decrypts a file of several chunks, and then a changed one. Returns 0 if every step
- * ends as expected.
- */
+/* Encrypts and decrypts a file of several chunks, and then a changed one. Returns 0 if every step ends as expected. */
 static int try_files(FILE *plain, FILE *encrypted, FILE *decrypted, const uint8_t *key)
 {
     int byte, i;

@@ -1,6 +1,5 @@
 /*
- * A program for libsodium, with one include line changed: a message is encrypted with its tag, and
- * decrypted.
+ * A program for libsodium, with one include line changed: a message is encrypted with its tag, and decrypted.
  *
  * cc from_libsodium.c $(pkg-config --cflags --libs hunkravy)
  */

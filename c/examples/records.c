@@ -1,12 +1,11 @@
 /*
- * Seals standard input to a record stream, in pieces of 64 KiB, and opens one. Both read their
- * input once, so it may be a pipe, and the opener writes no byte before its tag is verified:
+ * Seals standard input to a record stream, in pieces of 64 KiB, and opens one. Both read their input once, so it may be
+ * a pipe, and the opener writes no byte before its tag is verified:
  *
  *     records seal KEYFILE < plain > sealed
  *     records open KEYFILE < sealed > plain
  *
- * A key file has 32 bytes. If the opener fails, what it has written is only the beginning of what
- * was sealed.
+ * A key file has 32 bytes. If the opener fails, what it has written is only the beginning of what was sealed.
  *
  * cc records.c $(pkg-config --cflags --libs hunkravy)
  */
@@ -50,11 +49,8 @@ static int seal_pieces(hunkravy_record_stream *stream, FILE *out, FILE *in)
         if (ferror(in)) {
             return -1;
         }
-        if (is_last) {
-            code = hunkravy_record_seal_last(stream, record, length);
-        } else {
-            code = hunkravy_record_seal(stream, record, length);
-        }
+        code =
+            is_last ? hunkravy_record_seal_last(stream, record, length) : hunkravy_record_seal(stream, record, length);
         length += HUNKRAVY_RECORD_BYTES;
         if (code != HUNKRAVY_OK || fwrite(record, 1, length, out) != length) {
             return -1;
@@ -127,13 +123,8 @@ static int open_sealed(FILE *out, FILE *in, const uint8_t *key)
 static int read_key(uint8_t *key, const char *name)
 {
     FILE *file = fopen(name, "rb");
-    int result = -1;
-
-    if (file != NULL) {
-        result = fread(key, 1, KEY_BYTES, file) == KEY_BYTES && is_at_end(file) ? 0 : -1;
-        fclose(file);
-    }
-    return result;
+    int is_read = file != NULL && fread(key, 1, KEY_BYTES, file) == KEY_BYTES && is_at_end(file);
+    return file != NULL && fclose(file) == 0 && is_read ? 0 : -1;
 }
 
 int main(int count, char **arguments)

@@ -1,7 +1,6 @@
 /*
- * Encrypts a message into a packet, and decrypts it again: AEGIS-256, a random nonce, a tag of 32
- * bytes. A packet that is sent twice decrypts twice: if that matters, number the messages and
- * reject repeats.
+ * Encrypts a message into a packet, and decrypts it again: AEGIS-256, a random nonce, a tag of 32 bytes. A packet that
+ * is sent twice decrypts twice: if that matters, number the messages and reject repeats.
  *
  * cc seal.c $(pkg-config --cflags --libs hunkravy)
  */
@@ -27,30 +26,25 @@ static const uint8_t CONTEXT[] = "example packets, version 1";
  */
 static int seal_packet(uint8_t *packet, const uint8_t *message, size_t length, const uint8_t *key)
 {
+    int code;
     if (getentropy(packet, NONCE_BYTES) != 0) {
         return -1;
     }
-    if (hunkravy_encrypt_combined(HUNKRAVY_AEGIS256, packet + NONCE_BYTES, message, length, CONTEXT, sizeof CONTEXT,
-            packet, NONCE_BYTES, key, HUNKRAVY_AEGIS256_KEY_BYTES, TAG_BYTES) != HUNKRAVY_OK) {
-        return -1;
-    }
-    return 0;
+    code = hunkravy_encrypt_combined(HUNKRAVY_AEGIS256, packet + NONCE_BYTES, message, length, CONTEXT, sizeof CONTEXT,
+        packet, NONCE_BYTES, key, HUNKRAVY_AEGIS256_KEY_BYTES, TAG_BYTES);
+    return code == HUNKRAVY_OK ? 0 : -1;
 }
 
-/*
- * Writes the message of a packet of `length` bytes. Returns 0, or -1 if it is not a packet of this
- * key.
- */
+/* Writes the message of a packet of `length` bytes. Returns 0, or -1 if it is not a packet of this key. */
 static int open_packet(uint8_t *message, const uint8_t *packet, size_t length, const uint8_t *key)
 {
+    int code;
     if (length < PACKET_BYTES(0)) {
         return -1;
     }
-    if (hunkravy_decrypt_combined(HUNKRAVY_AEGIS256, message, packet + NONCE_BYTES, length - NONCE_BYTES, CONTEXT,
-            sizeof CONTEXT, packet, NONCE_BYTES, key, HUNKRAVY_AEGIS256_KEY_BYTES, TAG_BYTES) != HUNKRAVY_OK) {
-        return -1;
-    }
-    return 0;
+    code = hunkravy_decrypt_combined(HUNKRAVY_AEGIS256, message, packet + NONCE_BYTES, length - NONCE_BYTES, CONTEXT,
+        sizeof CONTEXT, packet, NONCE_BYTES, key, HUNKRAVY_AEGIS256_KEY_BYTES, TAG_BYTES);
+    return code == HUNKRAVY_OK ? 0 : -1;
 }
 
 /* Seals and opens a packet, and then a changed one. Returns 0 if every step ends as expected. */

@@ -1,6 +1,4 @@
-/*
- * What the test programs of this folder share: results, bytes, the variants and the stored lines.
- */
+/* What the test programs of this folder share: results, bytes, the variants and the stored lines. */
 #ifndef CHECK_H
 #define CHECK_H
 
@@ -8,11 +6,12 @@
 #include "hunkravy_pages.h"
 #include "hunkravy_records.h"
 
+#include <errno.h>
 #include <stdio.h>
 #include <stdlib.h>
 #include <string.h>
 
-#define MOST_BYTES 8192
+#define MOST_BYTES ((size_t)1 << 17)
 #define MOST_CHUNKS 1024
 #define MOST_FIELDS 8
 #define TAG_BYTES 32
@@ -21,12 +20,14 @@
 /* ---- Ending the program at the first wrong result */
 
 static unsigned long checks;
+/* The row of a table that is checked, if there is any. */
+static char row[240];
 
 static inline void holds(int fact, const char *what, const char *file, int line)
 {
     checks++;
     if (!fact) {
-        fprintf(stderr, "%s:%d: not so: %s\n", file, line, what);
+        fprintf(stderr, "%s:%d: not so: %s%s%s\n", file, line, what, row[0] == '\0' ? "" : ", in ", row);
         exit(EXIT_FAILURE);
     }
 }
@@ -137,7 +138,7 @@ static inline const struct variant *variant_of(const char *name)
 
 /* ---- The stored lines */
 
-/* Bytes, and the lengths of the chunks that they are cut into. */
+/* Bytes, and the lengths of the chunks that they are cut into: at commas. A run of zeros may be its length in parentheses. */
 struct bytes {
     uint8_t at[MOST_BYTES];
     size_t length;
@@ -171,6 +172,13 @@ static inline void read_bytes(struct bytes *bytes, const char *field)
             if (*field == '\0') {
                 return;
             }
+        } else if (*field == '(') {
+            char *end;
+            size_t count = (size_t)strtoul(field + 1, &end, 10);
+            HOLDS(*end == ')' && count <= MOST_BYTES - bytes->length);
+            memset(bytes->at + bytes->length, 0, count);
+            bytes->length += count;
+            field = end;
         } else if (*field != '-') {
             const char digits[3] = {field[0], field[1], '\0'};
             HOLDS(bytes->length < MOST_BYTES && field[1] != '\0');
@@ -273,6 +281,70 @@ static inline size_t for_each_line(const char *folder, const char *name,
     fclose(answers);
     HOLDS(count > 0);
     return count;
+}
+
+/* ---- Random-access files */
+
+/* Whether a code is the result that the tables of testkit name so. */
+static inline int has_result(int code, const char *name)
+{
+    static const struct {
+        int code;
+        const char *name;
+    } results[] = {{0, "ok"}, {0, "trusted"}, {EINVAL, "rejected"}, {ENOSPC, "no-room"},
+                   {HUNKRAVY_FILE_MOVED, "moved"}, {HUNKRAVY_FILE_LOCKED, "locked"},
+                   {HUNKRAVY_WRONG_JOURNAL, "wrong-journal"}, {HUNKRAVY_OPEN_BATCH, "open-batch"},
+                   {HUNKRAVY_WRONG_STATE, "wrong-state"}, {HUNKRAVY_FILE_TOO_LONG, "too-long"}};
+    for (size_t i = 0; i < COUNT(results); i++) {
+        if (strcmp(results[i].name, name) == 0) {
+            return code == results[i].code;
+        }
+    }
+    return strcmp(name, "failed") == 0 && code > 0;
+}
+
+/* ---- Record streams */
+
+/*
+ * Opens the records of a stream that was begun, and adds their messages to `found`. `fault` becomes what is wrong, as
+ * testkit/corpus names it, or no text.
+ */
+static inline void open_records(
+    hunkravy_record_stream *st, const uint8_t *bytes, size_t left, struct bytes *found, char *fault)
+{
+    static uint8_t record[MOST_BYTES];
+    size_t length = 0, message;
+    int is_last = 0;
+
+    for (fault[0] = '\0'; !is_last; bytes += length, left -= length) {
+        int code = left < HUNKRAVY_RECORD_HEAD_BYTES ? HUNKRAVY_OK : hunkravy_record_len(st, bytes, &length);
+        if (left > 0 && bytes[0] > 1) {
+            strcpy(fault, "flag");
+        } else if (code == HUNKRAVY_MESSAGE_TOO_LONG) {
+            strcpy(fault, "too-long");
+        } else if (left < HUNKRAVY_RECORD_HEAD_BYTES || left < length) {
+            strcpy(fault, "truncated");
+        } else {
+            memcpy(record, bytes, length);
+            if (hunkravy_record_open(st, record, length, &message, &is_last) != HUNKRAVY_OK) {
+                sprintf(fault, "damaged %lu", (unsigned long)found->chunk_count);
+            }
+        }
+        if (fault[0] != '\0') {
+            return;
+        }
+        memcpy(found->at + found->length, record + HUNKRAVY_RECORD_HEAD_BYTES, message);
+        found->length += message;
+        found->chunks[found->chunk_count++] = message;
+    }
+    strcpy(fault, left != 0 ? "trailing" : "");
+}
+
+static inline int are_same_chunks(const struct bytes *one, const struct bytes *other)
+{
+    return one->length == other->length && memcmp(one->at, other->at, one->length) == 0 &&
+        one->chunk_count == other->chunk_count &&
+        memcmp(one->chunks, other->chunks, one->chunk_count * sizeof one->chunks[0]) == 0;
 }
 
 #endif

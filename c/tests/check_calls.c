@@ -1,8 +1,7 @@
 /*
- * The calls at once, of all six variants: the stored lines by each form of a call, wrong lengths,
- * and the texts and constants of the headers. Its parameter is the folder of the stored lines. If
- * the library has one build alone, LEVEL is the level of that. It ends with status 0 only if every
- * result is right.
+ * The calls at once, of all six variants: the stored lines by each form of a call, wrong lengths, and the texts and
+ * constants of the headers. Its parameter is the folder of the stored lines. If the library has one build alone, LEVEL
+ * is the level of that. It ends with status 0 only if every result is right.
  */
 #include "check.h"
 
@@ -158,10 +157,7 @@ static void check_line(const struct line *line)
 
 /* ---- Wrong lengths */
 
-/*
- * Each call returns this code for this variant and these lengths, and writes nothing. Keystreams
- * have no tag.
- */
+/* Each call returns this code for this variant and these lengths, and writes nothing. Keystreams have no tag. */
 static void check_refused(uint32_t variant, size_t npublen, size_t klen, size_t maclen, int code)
 {
     uint8_t bytes[64], out[64], *k = filled(klen, 0), *npub = filled(npublen, 0);
@@ -191,10 +187,7 @@ static void check_refused(uint32_t variant, size_t npublen, size_t klen, size_t 
     free(mac);
 }
 
-/*
- * Lengths that no buffer has, and ciphertexts that are shorter than a tag. The calls return before
- * they read a byte.
- */
+/* Lengths that no buffer has, and ciphertexts that are shorter than a tag. The calls return before they read a byte. */
 static void check_long_and_short(uint32_t variant, size_t n)
 {
     const size_t most = (size_t)HUNKRAVY_MAX_BYTES;

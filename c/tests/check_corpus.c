@@ -10,250 +10,157 @@
 
 #include <unistd.h>
 
-#define MOST ((size_t)1 << 17)
 #define PREFIX ((size_t)HUNKRAVY_RECORD_PREFIX_BYTES)
 #define HEADER ((size_t)HUNKRAVY_RECORD_HEADER_BYTES)
 
-struct field {
-    size_t length;
-    uint8_t bytes[MOST];
-};
-
 /* A case. A field that its text does not have is empty. */
 struct corpus_case {
-    char name[200], variant[20], result[MOST];
-    struct field key, prefix, context, stream, file, journal, commitment;
+    char name[200], variant[20], result[2 * MOST_BYTES];
+    struct bytes key, prefix, context, stream, file, journal, commitment;
 };
 
-/* Reads hexadecimal digits, up to a space or the end. A run of zeros is its length in parentheses. */
-static const char *parse(struct field *field, const char *text)
-{
-    field->length = 0;
-    while (*text != '\0' && *text != ' ' && *text != '-') {
-        char digits[3] = {text[0], text[1], '\0'}, *end;
-        if (*text == '(') {
-            size_t count = strtoul(text + 1, &end, 10);
-            HOLDS(*end == ')' && count <= MOST - field->length);
-            memset(field->bytes + field->length, 0, count);
-            field->length += count;
-            text = end + 1;
-        } else {
-            HOLDS(text[1] != '\0' && field->length < MOST);
-            field->bytes[field->length++] = (uint8_t)strtoul(digits, &end, 16);
-            HOLDS(*end == '\0');
-            text += 2;
-        }
-    }
-    text += *text == '-';
-    return text + (*text == ' ');
-}
-
 /* Reads a line into the field that it names. */
-static void read_field(struct corpus_case *one, const char *line)
+static void read_field(struct corpus_case *one, char *line)
 {
     const struct {
         const char *name;
-        struct field *field;
-    } fields[] = {{"key: ", &one->key}, {"prefix: ", &one->prefix}, {"context: ", &one->context},
-        {"stream: ", &one->stream}, {"file: ", &one->file}, {"journal: ", &one->journal},
-        {"commitment: ", &one->commitment}};
-    const struct {
-        const char *name;
+        struct bytes *field;
         char *text;
-    } texts[] = {{"case: ", one->name}, {"variant: ", one->variant}, {"result: ", one->result}};
-    size_t found = 0;
+    } fields[] = {{"key", &one->key, NULL}, {"prefix", &one->prefix, NULL}, {"context", &one->context, NULL},
+        {"stream", &one->stream, NULL}, {"file", &one->file, NULL}, {"journal", &one->journal, NULL},
+        {"commitment", &one->commitment, NULL}, {"case", NULL, one->name}, {"variant", NULL, one->variant},
+        {"result", NULL, one->result}};
+    char *text = strstr(line, ": ");
+    HOLDS(text != NULL);
+    *text = '\0';
     for (size_t i = 0; i < COUNT(fields); i++) {
-        if (strncmp(line, fields[i].name, strlen(fields[i].name)) == 0) {
-            (void)parse(fields[i].field, line + strlen(fields[i].name));
-            found++;
+        if (strcmp(line, fields[i].name) == 0) {
+            if (fields[i].field != NULL) {
+                read_bytes(fields[i].field, text + 2);
+            } else {
+                strcpy(fields[i].text, text + 2);
+            }
+            return;
         }
     }
-    for (size_t i = 0; i < COUNT(texts); i++) {
-        if (strncmp(line, texts[i].name, strlen(texts[i].name)) == 0) {
-            strcpy(texts[i].text, line + strlen(texts[i].name));
-            found++;
-        }
+    HOLDS(!"a field's name");
+}
+
+/* Reads the contents of a result, in chunks, and returns whether it has any, or an error. */
+static int read_contents(struct corpus_case *one, struct bytes *contents)
+{
+    int is_ok = strncmp(one->result, "ok", 2) == 0;
+    for (char *at = one->result + 3; is_ok && (at = strchr(at, ' ')) != NULL;) {
+        *at = ',';
     }
-    HOLDS(found == 1);
-}
-
-/* The result that is wanted, of which the contents that were found are taken off. */
-static const char *wanted;
-
-static void expect_contents(const uint8_t *bytes, size_t length)
-{
-    static struct field field;
-    HOLDS(*wanted != '\0');
-    wanted = parse(&field, wanted);
-    HOLDS(field.length == length && memcmp(field.bytes, bytes, length) == 0);
-}
-
-static void expect_error(const char *error, uint64_t number)
-{
-    char text[40];
-    int has_number = strcmp(error, "damaged") == 0 || strcmp(error, "missing") == 0;
-    snprintf(text, sizeof text, has_number ? "%s %llu" : "%s", error, (unsigned long long)number);
-    HOLDS(strcmp(wanted, text) == 0);
-}
-
-/* Begins to compare with a result. Returns whether it is contents. */
-static int begins_contents(const char *result)
-{
-    int is_ok = strncmp(result, "ok", 2) == 0;
-    wanted = is_ok ? result + 2 + strspn(result + 2, " ") : result;
+    if (is_ok) {
+        read_bytes(contents, one->result[2] == '\0' ? "" : one->result + 3);
+    }
     return is_ok;
 }
 
 /* ---- Record streams and sealed files */
 
-/* What is wrong with the head of a record, of which so many bytes are there, or a null pointer. */
-static const char *fault_of_head(const hunkravy_record_stream *stream, const uint8_t *head, size_t left, size_t *length)
+/* Opens a stream, and compares its messages. */
+static void check_stream(
+    struct corpus_case *one, const uint8_t *prefix, const struct bytes *context, const uint8_t *stream, size_t length)
 {
-    int code;
-    if (left < HUNKRAVY_RECORD_HEAD_BYTES) {
-        return left > 0 && head[0] > 1 ? "flag" : "truncated";
+    static struct bytes found, expected;
+    hunkravy_record_stream st;
+    char fault[40] = "header";
+    found.length = found.chunk_count = 0;
+    if (length >= HEADER &&
+        hunkravy_record_begin_open(&st, one->key.at, prefix, context->at, context->length, stream) == HUNKRAVY_OK) {
+        open_records(&st, stream + HEADER, length - HEADER, &found, fault);
     }
-    code = hunkravy_record_len(stream, head, length);
-    if (code != HUNKRAVY_OK) {
-        return code == HUNKRAVY_MESSAGE_TOO_LONG ? "too-long" : "flag";
+    if (!read_contents(one, &expected)) {
+        HOLDS(strcmp(fault, one->result) == 0);
+        return;
     }
-    return left < *length ? "truncated" : NULL;
-}
-
-/* Opens a stream, and passes its messages on. Returns an error, and the number of its record, or a null pointer. */
-static const char *open_records(const struct corpus_case *one, const uint8_t *prefix, const struct field *context,
-    struct field *stream, void (*pass)(const uint8_t *, size_t), uint64_t *number)
-{
-    hunkravy_record_stream state;
-    size_t at = HEADER, length, message;
-    int is_last = 0;
-    if (stream->length < HEADER ||
-        hunkravy_record_begin_open(&state, one->key.bytes, prefix, context->bytes, context->length, stream->bytes) !=
-            HUNKRAVY_OK) {
-        return "header";
+    if (one->stream.length == 0) {
+        /* A sealed file has no more of its pieces than their contents. */
+        found.chunk_count = 1;
+        found.chunks[0] = found.length;
     }
-    for (*number = 0; !is_last; ++*number) {
-        const char *fault = fault_of_head(&state, stream->bytes + at, stream->length - at, &length);
-        if (fault != NULL) {
-            return fault;
-        }
-        if (hunkravy_record_open(&state, stream->bytes + at, length, &message, &is_last) != HUNKRAVY_OK) {
-            return "damaged";
-        }
-        pass(stream->bytes + at + HUNKRAVY_RECORD_HEAD_BYTES, message);
-        at += length;
-    }
-    return at < stream->length ? "trailing" : NULL;
-}
-
-static void leave(const uint8_t *bytes, size_t length)
-{
-    (void)bytes;
-    (void)length;
+    HOLDS(fault[0] == '\0' && are_same_chunks(&found, &expected));
 }
 
 static void check_records(struct corpus_case *one)
 {
     /* A stream of version 1 is none that the library knows. */
-    int is_old = one->stream.length >= HEADER && memcmp(one->stream.bytes, "AGR1", HEADER) == 0;
-    int is_ok = begins_contents(is_old ? "header" : one->result);
-    uint64_t number = 0;
-    const char *error =
-        open_records(one, one->prefix.bytes, &one->context, &one->stream, is_ok ? expect_contents : leave, &number);
-    HOLDS((error == NULL) == is_ok);
-    if (error != NULL) {
-        expect_error(error, number);
+    if (one->stream.length >= HEADER && memcmp(one->stream.at, "AGR1", HEADER) == 0) {
+        strcpy(one->result, "header");
     }
-    HOLDS(!is_ok || *wanted == '\0');
-}
-
-static struct field joined;
-
-static void join(const uint8_t *bytes, size_t length)
-{
-    memcpy(joined.bytes + joined.length, bytes, length);
-    joined.length += length;
+    check_stream(one, one->prefix.at, &one->context, one->stream.at, one->stream.length);
 }
 
 /* A sealed file is a prefix and a stream of its own context. */
 static void check_sealed(struct corpus_case *one)
 {
     size_t prefix = one->file.length < PREFIX ? one->file.length : PREFIX;
-    int is_ok = begins_contents(one->result);
-    uint64_t number = 0;
-    const char *error;
-    (void)parse(&one->context, "68756e6b72617679207631");
-    one->stream.length = one->file.length - prefix;
-    memcpy(one->stream.bytes, one->file.bytes + prefix, one->stream.length);
-    joined.length = 0;
-    error = open_records(one, one->file.bytes, &one->context, &one->stream, join, &number);
-    HOLDS((error == NULL) == is_ok);
-    if (error == NULL) {
-        expect_contents(joined.bytes, joined.length);
-    } else {
-        expect_error(error, number);
-    }
+    read_bytes(&one->context, "68756e6b72617679207631");
+    check_stream(one, one->file.at, &one->context, one->file.at + prefix, one->file.length - prefix);
 }
 
 /* ---- Random-access files */
 
-static void write_file(const char *path, const struct field *field)
+static void write_file(const char *path, const struct bytes *field)
 {
     FILE *file = fopen(path, "w");
-    HOLDS(file != NULL && fwrite(field->bytes, 1, field->length, file) == field->length && fclose(file) == 0);
+    HOLDS(file != NULL && fwrite(field->at, 1, field->length, file) == field->length && fclose(file) == 0);
 }
 
-static void expect_file(const char *path, const struct field *field)
+static int has_bytes(const char *path, const struct bytes *field)
 {
-    static uint8_t found[MOST + 1];
+    static uint8_t found[MOST_BYTES + 1];
     FILE *file = fopen(path, "r");
-    if (file == NULL) {
-        HOLDS(field->length == 0);
-        return;
-    }
-    HOLDS(fread(found, 1, sizeof found, file) == field->length && are_equal(found, field->bytes, field->length));
-    HOLDS(fclose(file) == 0);
+    size_t length = file == NULL ? 0 : fread(found, 1, sizeof found, file);
+    HOLDS(file == NULL || fclose(file) == 0);
+    return length == field->length && are_equal(found, field->at, length);
 }
 
-/* Opens and reads a file. Returns a code, and the contents. */
-static int read_contents(const struct corpus_case *one, const char *path, hunkravy_file **file, struct field *contents)
+/* Opens and reads a file. Returns the name of its error, or a null pointer after it has compared the contents. */
+static const char *open_pages(struct corpus_case *one, const char *path, hunkravy_file **file)
 {
-    int code = hunkravy_file_open(file, path, variant_of(one->variant)->number, one->key.bytes, one->key.length);
-    contents->length = 0;
+    static struct bytes found, expected;
+    uint8_t mac[HUNKRAVY_FILE_COMMITMENT_BYTES];
+    int code = hunkravy_file_open(file, path, variant_of(one->variant)->number, one->key.at, one->key.length);
     if (code != HUNKRAVY_OK) {
-        return code;
+        HOLDS(code == HUNKRAVY_NO_FILE || code == HUNKRAVY_WRONG_JOURNAL);
+        return code == HUNKRAVY_NO_FILE ? "header" : "journal";
     }
-    HOLDS(hunkravy_file_size(*file) <= MOST);
-    return hunkravy_file_read(*file, 0, contents->bytes, hunkravy_file_size(*file), &contents->length);
+    HOLDS(hunkravy_file_size(*file) <= MOST_BYTES);
+    code = hunkravy_file_read(*file, 0, found.at, MOST_BYTES, &found.length);
+    if (code != HUNKRAVY_OK) {
+        HOLDS(code == HUNKRAVY_DAMAGED_PAGE);
+        return "damaged";
+    }
+    HOLDS(read_contents(one, &expected) && found.length == expected.length);
+    HOLDS(memcmp(found.at, expected.at, found.length) == 0);
+    HOLDS(hunkravy_file_commitment(*file, mac) == HUNKRAVY_OK && one->commitment.length == sizeof mac);
+    HOLDS(memcmp(mac, one->commitment.at, sizeof mac) == 0);
+    return NULL;
 }
 
 static void check_pages(struct corpus_case *one)
 {
-    static struct field contents;
-    char folder[] = "/tmp/check_corpus-XXXXXX", path[80], journal[80];
-    uint8_t mac[HUNKRAVY_FILE_COMMITMENT_BYTES];
+    char folder[] = "/tmp/check_corpus-XXXXXX", path[80], journal[80], text[40];
+    const char *error;
     hunkravy_file *file;
-    int is_ok = begins_contents(one->result), code;
 
     HOLDS(mkdtemp(folder) != NULL);
     snprintf(path, sizeof path, "%s/file", folder);
     snprintf(journal, sizeof journal, "%s/file.journal", folder);
     write_file(path, &one->file);
     write_file(journal, &one->journal);
-    code = read_contents(one, path, &file, &contents);
-    HOLDS((code == HUNKRAVY_OK) == is_ok);
-    if (is_ok) {
-        expect_contents(contents.bytes, contents.length);
-        HOLDS(hunkravy_file_commitment(file, mac) == HUNKRAVY_OK && one->commitment.length == sizeof mac);
-        HOLDS(memcmp(mac, one->commitment.bytes, sizeof mac) == 0);
-    } else if (code == HUNKRAVY_DAMAGED_PAGE) {
+    error = open_pages(one, path, &file);
+    if (error != NULL && file != NULL) {
         /* A page that is missing is damaged. */
-        expect_error(strncmp(wanted, "missing", 7) == 0 ? "missing" : "damaged", hunkravy_file_damaged_page(file));
-    } else {
-        HOLDS(code == HUNKRAVY_NO_FILE || code == HUNKRAVY_WRONG_JOURNAL);
-        expect_error(code == HUNKRAVY_NO_FILE ? "header" : "journal", 0);
-        expect_file(path, &one->file);
-        expect_file(journal, &one->journal);
+        error = strncmp(one->result, "missing", 7) == 0 ? "missing" : error;
+        snprintf(text, sizeof text, "%s %llu", error, (unsigned long long)hunkravy_file_damaged_page(file));
+        HOLDS(strcmp(one->result, text) == 0);
+    } else if (error != NULL) {
+        HOLDS(strcmp(one->result, error) == 0 && has_bytes(path, &one->file) && has_bytes(journal, &one->journal));
     }
     HOLDS(hunkravy_file_close(file) == HUNKRAVY_OK && unlink(path) == 0);
     (void)unlink(journal);
@@ -262,19 +169,10 @@ static void check_pages(struct corpus_case *one)
 
 /* ---- The cases */
 
-static const char *current;
-
-static void name_current(void)
-{
-    if (current != NULL) {
-        fprintf(stderr, "in the case: %s\n", current);
-    }
-}
-
 static size_t check_all(const char *name, void (*check)(struct corpus_case *))
 {
     static struct corpus_case one;
-    static char line[2 * MOST];
+    static char line[3 * MOST_BYTES];
     char path[80];
     size_t count = 0;
     FILE *file;
@@ -289,9 +187,8 @@ static size_t check_all(const char *name, void (*check)(struct corpus_case *))
             read_field(&one, line);
             continue;
         }
-        current = one.name;
+        snprintf(row, sizeof row, "%s: %s", name, one.name);
         check(&one);
-        current = NULL;
         memset(&one, 0, sizeof one);
         count++;
     }
@@ -302,7 +199,6 @@ static size_t check_all(const char *name, void (*check)(struct corpus_case *))
 int main(void)
 {
     size_t records, sealed, pages;
-    HOLDS(atexit(name_current) == 0);
     records = check_all("records", check_records);
     sealed = check_all("sealed", check_sealed);
     pages = check_all("random-access", check_pages);

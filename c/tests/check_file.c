@@ -1,12 +1,6 @@
 /*
- * Random-access files. Random calls are made to a file and to a model of it, and those of testkit/batches.txt. A commit and
- * the opening after it are stopped at each call of the storage, any of their syncs fail, and the power fails: each time the
- * file has all of the change, or none of it. Each allocation fails by turns.
- *
- *     check_file batches FILE [write]
- *
- * is the program crates/example_batches over the library: it prints the number that all rows of FILE hold, and with `write`
- * it writes the numbers after that, until it is stopped. `check_file COUNT` tries so many random commits.
+ * Random-access files. The calls of testkit/batches.txt are made, and random ones to a file and to a model of it, in which each
+ * allocation fails by turns. The tests of the Cargo package run over this engine too, and testkit/disk tests what crashes leave.
  */
 #ifndef _DEFAULT_SOURCE
 #define _DEFAULT_SOURCE
@@ -63,81 +57,19 @@ void *__wrap_calloc(size_t count, size_t length)
     return is_refused() ? (errno = ENOMEM, (void *)NULL) : __real_calloc(count, length);
 }
 
-/* ---- A disk that may stop, and what it then has */
+/* ---- A storage that may be full */
 
-enum { MOST_STORED = 1 << 17, MOST_DIRTY = 512, STOPPED = 200, ALL = 1 << 30 };
+enum { MOST_STORED = 1 << 17 };
 
 struct part {
-    size_t length, stored_length, dirty_count;
-    uint8_t now[MOST_STORED], stored[MOST_STORED];
-    struct {
-        size_t place, length;
-    } dirty[MOST_DIRTY];
+    size_t length;
+    uint8_t bytes[MOST_STORED];
 };
 
-/* Calls are left until it stops, and syncs until one fails. */
 struct disk {
     struct part part[2];
-    int calls_left, syncs_left, failing_syncs, is_locked, is_full;
+    int is_full;
 };
-
-static int is_stopped(struct disk *disk)
-{
-    if (disk->calls_left == 0) {
-        return 1;
-    }
-    disk->calls_left--;
-    return 0;
-}
-
-static void mark(struct part *part, size_t place, size_t length)
-{
-    HOLDS(part->dirty_count < MOST_DIRTY);
-    part->dirty[part->dirty_count].place = place;
-    part->dirty[part->dirty_count++].length = length;
-}
-
-/* Stores the dirty bytes: all of them, or each sector old, new, torn or garbage, and the old length or the new one. */
-static void store(struct part *part, int is_all)
-{
-    size_t length = is_all || draw(2) ? part->length : part->stored_length;
-
-    for (size_t at = part->stored_length; at < length; at++) {
-        part->stored[at] = is_all || draw(2) ? 0 : (uint8_t)draw(256);
-    }
-    for (size_t i = 0; i < part->dirty_count; i++) {
-        size_t end = part->dirty[i].place + part->dirty[i].length;
-        uint64_t habit = draw(8);
-        for (size_t at = part->dirty[i].place, next; at < end; at = next) {
-            uint64_t kind = is_all ? 0 : habit < 4 ? habit : draw(4);
-            next = (at / 512 + 1) * 512 < end ? (at / 512 + 1) * 512 : end;
-            if (kind == 0 || kind == 2) {
-                memcpy(part->stored + at, part->now + at, (next - at) >> (kind == 2 ? draw(9) : 0));
-            }
-            if (kind == 3) {
-                for (size_t j = at; j < next; j++) {
-                    part->stored[j] = (uint8_t)draw(256);
-                }
-            }
-        }
-    }
-    part->stored_length = length;
-    part->dirty_count = 0;
-}
-
-/* The power fails: what can be read is what is stored. */
-static void crash(struct disk *disk)
-{
-    for (int i = 0; i < 2; i++) {
-        struct part *part = &disk->part[i];
-        store(part, 0);
-        memcpy(part->now, part->stored, part->stored_length);
-        part->length = part->stored_length;
-    }
-    disk->is_locked = 0;
-    disk->calls_left = disk->syncs_left = ALL;
-    disk->failing_syncs = 1;
-}
 
 static int disk_read(void *context, enum hunkravy_part which, uint64_t place, uint8_t *bytes, size_t length)
 {
@@ -145,7 +77,7 @@ static int disk_read(void *context, enum hunkravy_part which, uint64_t place, ui
     if (place > part->length || length > part->length - place) {
         return HUNKRAVY_DAMAGED_PAGE;
     }
-    memcpy(bytes, part->now + place, length);
+    memcpy(bytes, part->bytes + place, length);
     return 0;
 }
 
@@ -153,24 +85,16 @@ static int disk_write(void *context, enum hunkravy_part which, uint64_t place, c
 {
     struct disk *disk = (struct disk *)context;
     struct part *part = &disk->part[which];
-    int stops = is_stopped(disk);
     HOLDS(place + length <= MOST_STORED);
-    if (stops && (disk->is_locked != 1 || draw(2))) {
-        return STOPPED;
-    }
     if (disk->is_full && place + length > part->length) {
         return ENOSPC;
     }
     if (place > part->length) {
-        memset(part->now + part->length, 0, place - part->length);
-        mark(part, part->length, place - part->length);
+        memset(part->bytes + part->length, 0, place - part->length);
     }
-    memcpy(part->now + place, bytes, length);
+    memcpy(part->bytes + place, bytes, length);
     part->length = place + length > part->length ? place + length : part->length;
-    mark(part, place, length);
-    /* The first write that is not made may be made in part. */
-    disk->is_locked += stops;
-    return stops ? STOPPED : 0;
+    return 0;
 }
 
 static int disk_size(void *context, enum hunkravy_part which, uint64_t *size)
@@ -181,80 +105,15 @@ static int disk_size(void *context, enum hunkravy_part which, uint64_t *size)
 
 static int disk_resize(void *context, enum hunkravy_part which, uint64_t size)
 {
-    struct disk *disk = (struct disk *)context;
-    if (is_stopped(disk)) {
-        return STOPPED;
-    }
     HOLDS(which == HUNKRAVY_PART_JOURNAL && size == 0);
-    disk->part[which].length = 0;
+    ((struct disk *)context)->part[which].length = 0;
     return 0;
 }
 
-/* A sync that fails is as those of Linux: what it has not stored can be read, and no later sync stores it. */
 static int disk_sync(void *context, enum hunkravy_part which)
 {
-    struct disk *disk = (struct disk *)context;
-    int fails;
-    if (is_stopped(disk)) {
-        return STOPPED;
-    }
-    fails = disk->syncs_left <= 0 && disk->syncs_left > -disk->failing_syncs;
-    disk->syncs_left--;
-    store(&disk->part[which], !fails);
-    return fails ? EIO : 0;
-}
-
-static int disk_forget(void *context, enum hunkravy_part which)
-{
-    struct part *part = &((struct disk *)context)->part[which];
-    int code = disk_sync(context, which);
-    /* By turns it is advice that is not taken. */
-    if (code == 0 && draw(2)) {
-        memcpy(part->now, part->stored, part->stored_length);
-        part->length = part->stored_length;
-    }
-    return code;
-}
-
-static int disk_replace(void *context, const uint8_t *bytes, size_t length)
-{
-    struct disk *disk = (struct disk *)context;
-    struct part *part = &disk->part[HUNKRAVY_PART_JOURNAL];
-    if (is_stopped(disk)) {
-        return STOPPED;
-    }
-    memcpy(part->now, bytes, length);
-    memcpy(part->stored, bytes, length);
-    part->length = part->stored_length = length;
-    part->dirty_count = 0;
-    return 0;
-}
-
-static int disk_lock(void *context)
-{
-    struct disk *disk = (struct disk *)context;
-    if (disk->is_locked) {
-        return HUNKRAVY_FILE_LOCKED;
-    }
-    disk->is_locked = 1;
-    return 0;
-}
-
-/* Room is taken at once, as with posix_fallocate: a crash leaves the old length or the new one. */
-static int disk_reserve(void *context, uint64_t from, uint64_t end)
-{
-    struct disk *disk = (struct disk *)context;
-    struct part *part = &disk->part[HUNKRAVY_PART_FILE];
-    if (is_stopped(disk)) {
-        return STOPPED;
-    }
-    if (disk->is_full && end > part->length) {
-        return ENOSPC;
-    }
-    if (end > from && end > part->length) {
-        memset(part->now + part->length, 0, end - part->length);
-        part->length = end;
-    }
+    (void)context;
+    (void)which;
     return 0;
 }
 
@@ -267,15 +126,11 @@ static int disk_random(void *context, uint8_t *bytes, size_t length)
     return 0;
 }
 
-static void disk_close(void *context)
-{
-    ((struct disk *)context)->is_locked = 0;
-}
-
+/* A storage with no more functions than it has to have. */
 static struct hunkravy_storage over(struct disk *disk)
 {
-    struct hunkravy_storage storage = {disk, disk_read, disk_write, disk_size, disk_resize, disk_sync, disk_replace,
-        disk_forget, disk_lock, NULL, disk_reserve, disk_random, disk_close};
+    struct hunkravy_storage storage = {disk, disk_read, disk_write, disk_size, disk_resize, disk_sync, NULL, NULL, NULL,
+        NULL, NULL, disk_random, NULL};
     return storage;
 }
 
@@ -332,213 +187,21 @@ static int change(hunkravy_file *file, struct model *model, size_t most)
     return code;
 }
 
-/* Makes random calls, with batches in batches. */
-static void check_calls(uint32_t variant, uint32_t page_size)
-{
-    enum { DEPTH = 5 };
-    static struct disk disk;
-    static struct model model, committed, saved[DEPTH];
-    uint64_t batches[DEPTH] = {0}, depth = 0;
-    struct hunkravy_storage storage = over(&disk);
-    size_t klen = hunkravy_key_bytes(variant);
-    hunkravy_file *file;
-
-    memset(&disk, 0, sizeof disk);
-    disk.calls_left = disk.syncs_left = ALL;
-    model.length = committed.length = 0;
-    HOLDS(hunkravy_file_create_in(&file, &storage, variant, key, klen, page_size) == 0);
-    for (int turn = 0; turn < 3000; turn++) {
-        uint64_t kind = draw(20), to;
-        if (kind < 10) {
-            HOLDS(change(file, &model, 12000) == 0);
-        } else if (kind < 12 && depth < DEPTH) {
-            saved[depth] = model;
-            HOLDS(hunkravy_file_begin(file, &batches[depth++]) == 0);
-        } else if (kind < 14 && depth > 0) {
-            to = draw(depth);
-            hunkravy_file_undo(file, batches[to]);
-            model = saved[depth = to];
-        } else if (kind < 16 && depth > 0) {
-            to = draw(4) ? depth - 1 : draw(depth);
-            if (to == depth - 1) {
-                HOLDS(hunkravy_file_end(file, batches[--depth]) == 0);
-                committed = depth == 0 ? model : committed;
-            } else {
-                HOLDS(hunkravy_file_end(file, batches[to]) == HUNKRAVY_OPEN_BATCH);
-                model = saved[depth = to];
-            }
-            HOLDS(hunkravy_file_end(file, batches[to]) == HUNKRAVY_WRONG_STATE);
-        } else if (kind == 16) {
-            HOLDS(hunkravy_file_commit(file) == (depth == 0 ? 0 : HUNKRAVY_OPEN_BATCH));
-            committed = depth == 0 ? model : committed;
-        } else if (kind == 17 && draw(4) == 0) {
-            hunkravy_file_discard(file);
-            model = committed;
-            depth = 0;
-        } else if (kind == 18 && draw(4) == 0) {
-            HOLDS(hunkravy_file_close(file) == (depth == 0 ? 0 : HUNKRAVY_OPEN_BATCH));
-            model = committed = depth == 0 ? model : committed;
-            depth = 0;
-            HOLDS(hunkravy_file_open_in(&file, &storage, variant, key, klen) == 0);
-        }
-        HOLDS(hunkravy_file_open_batches(file) == depth);
-        check_equal(file, &model);
-    }
-    hunkravy_file_discard(file);
-    HOLDS(hunkravy_file_close(file) == 0);
-}
-
-/* ---- Crashes */
-
-static unsigned long states, changed_states;
-
-/* Opens a file whose contents are those before or after a change. Returns which, or -1 if the opening is stopped. */
-static int open_left(struct disk *disk, const struct model *before, const struct model *after)
-{
-    static uint8_t found[MOST_CONTENTS + 1];
-    struct hunkravy_storage storage = over(disk);
-    hunkravy_file *file;
-    size_t length = 0;
-    int is_after;
-
-    if (hunkravy_file_open_in(&file, &storage, HUNKRAVY_AEGIS256, key, sizeof key) != 0) {
-        return -1;
-    }
-    HOLDS(disk->part[HUNKRAVY_PART_JOURNAL].length == 0 && disk->part[HUNKRAVY_PART_JOURNAL].stored_length == 0);
-    HOLDS(hunkravy_file_read(file, 0, found, sizeof found, &length) == 0);
-    is_after = length == after->length && memcmp(found, after->bytes, length) == 0;
-    HOLDS(is_after || (before != NULL && length == before->length && memcmp(found, before->bytes, length) == 0));
-    HOLDS(hunkravy_file_close(file) == 0);
-    return is_after;
-}
-
-/*
- * Opens what a crash has left, and stops that by turns. What an opening has found is certain.
- *
- * Two steps of a recovery are there for other storages, and no test here sees them. It begins with a sync of the file: but
- * `forget` has synced it, and beside a journal a file has no other pending writes than those of that journal. And it syncs
- * a journal that is not whole before it empties it.
- */
-static void check_left(const struct disk *left, const struct model *before, const struct model *after)
-{
-    static struct disk disk;
-    int seen = -1, is_last = 0;
-
-    disk = *left;
-    while (!is_last) {
-        int found;
-        /* The power fails, or only the program ends: then what a sync has not stored can be read. */
-        if (draw(4) != 0) {
-            crash(&disk);
-            states++;
-        }
-        is_last = draw(3) == 0;
-        disk.is_locked = 0;
-        disk.calls_left = is_last ? ALL : (int)draw(14);
-        disk.syncs_left = is_last || draw(4) != 0 ? ALL : (int)draw(8);
-        found = open_left(&disk, before, after);
-        HOLDS(found < 0 ? !is_last : seen < 0 || found == seen);
-        seen = found < 0 ? seen : found;
-    }
-    changed_states += (unsigned long)seen;
-}
-
-/* Commits a random change to a copy of a disk, which stops after so many calls, or at a sync that fails. */
-static int commit_once(
-    const struct disk *from, const struct model *before, struct model *after, uint64_t seed, int calls, int syncs)
-{
-    static struct disk disk;
-    struct hunkravy_storage storage = over(&disk);
-    uint64_t kept;
-    hunkravy_file *file;
-    int code;
-
-    disk = *from;
-    HOLDS(hunkravy_file_open_in(&file, &storage, HUNKRAVY_AEGIS256, key, sizeof key) == 0);
-    kept = drawn;
-    drawn = seed;
-    *after = *before;
-    for (uint64_t count = 1 + draw(4); count > 0; count--) {
-        HOLDS(change(file, after, 6000) == 0);
-    }
-    drawn ^= kept | 1;
-    disk.calls_left = calls;
-    disk.syncs_left = syncs;
-    disk.failing_syncs = 1 + (int)draw(2);
-    code = hunkravy_file_commit(file);
-    HOLDS(code == 0 || code == STOPPED || code == EIO);
-    /* An error of the first syncs, those of the journal, is no reason to open the file again, unless another follows. */
-    HOLDS(calls != ALL || code == 0 ||
-        (hunkravy_file_check(file) == HUNKRAVY_OK) == (syncs < 2 && disk.failing_syncs == 1));
-    if (code != 0 && hunkravy_file_check(file) == HUNKRAVY_OK) {
-        check_equal(file, after);
-        if (calls == ALL && draw(2)) {
-            code = hunkravy_file_commit(file);
-            HOLDS(code == 0);
-        } else {
-            hunkravy_file_discard(file);
-            check_equal(file, before);
-        }
-    }
-    /* A commit leaves nothing to be synced, or the file as it was. */
-    HOLDS(hunkravy_file_check(file) != 0 || disk.part[HUNKRAVY_PART_JOURNAL].stored_length == 0);
-    HOLDS(code != 0 || disk.part[HUNKRAVY_PART_JOURNAL].dirty_count + disk.part[HUNKRAVY_PART_FILE].dirty_count == 0);
-    disk.calls_left = 0;
-    hunkravy_file_discard(file);
-    code = hunkravy_file_close(file) == HUNKRAVY_FILE_BROKEN ? STOPPED : code;
-    for (int i = 0; i < 6; i++) {
-        check_left(&disk, code == 0 ? NULL : before, after);
-    }
-    return code == 0;
-}
-
-static void check_crashes(unsigned long commits)
-{
-    static struct disk disk;
-    static struct model model, after;
-    struct hunkravy_storage storage = over(&disk);
-    hunkravy_file *file;
-
-    disk.calls_left = disk.syncs_left = ALL;
-    HOLDS(hunkravy_file_create_in(&file, &storage, HUNKRAVY_AEGIS256, key, sizeof key, 256) == 0);
-    HOLDS(hunkravy_file_close(file) == 0);
-    for (unsigned long turn = 0; turn < commits; turn++) {
-        uint64_t seed = drawn | 1;
-        int calls = 0;
-        for (int syncs = 0; syncs < 5; syncs++) {
-            commit_once(&disk, &model, &after, seed, ALL, syncs);
-            /* The program ends after the sync that fails, before it can empty the journal. */
-            for (int ends = 2; ends < 12; ends++) {
-                commit_once(&disk, &model, &after, seed, ends, syncs);
-            }
-        }
-        while (!commit_once(&disk, &model, &after, seed, calls, ALL)) {
-            HOLDS(++calls < 60);
-        }
-        /* The next commit is to another file: this one with the change. */
-        HOLDS(hunkravy_file_open_in(&file, &storage, HUNKRAVY_AEGIS256, key, sizeof key) == 0);
-        for (int i = 0; i < 3; i++) {
-            HOLDS(change(file, &model, 6000) == 0);
-        }
-        HOLDS(hunkravy_file_close(file) == 0);
-    }
-    HOLDS(changed_states > states / 20 && changed_states < states);
-}
+/* ---- The bytes of a page */
 
 /* After the contents a page has zeros, and nothing of the memory that it was made in. */
 static void check_zeros(void)
 {
     static struct disk disk;
     struct hunkravy_storage storage = over(&disk);
-    uint8_t *page = disk.part[HUNKRAVY_PART_FILE].now + HUNKRAVY_PAGE_FIRST, id[HUNKRAVY_PAGE_ID_BYTES];
+    uint8_t *page = disk.part[HUNKRAVY_PART_FILE].bytes + HUNKRAVY_PAGE_FIRST, id[HUNKRAVY_PAGE_ID_BYTES];
     uint64_t counter, length;
     uint32_t size;
     hunkravy_file *file;
 
-    disk.calls_left = disk.syncs_left = ALL;
     HOLDS(hunkravy_file_create_in(&file, &storage, HUNKRAVY_AEGIS256, key, sizeof key, 256) == 0);
     HOLDS(hunkravy_file_write(file, 2, "contents", 8) == 0 && hunkravy_file_close(file) == 0);
-    HOLDS(hunkravy_page_header_open(HUNKRAVY_AEGIS256, disk.part[HUNKRAVY_PART_FILE].now, key, sizeof key, &size, id,
+    HOLDS(hunkravy_page_header_open(HUNKRAVY_AEGIS256, disk.part[HUNKRAVY_PART_FILE].bytes, key, sizeof key, &size, id,
               &counter, &length) == 0);
     HOLDS(counter == 1 && length == 10 && size == 256);
     HOLDS(hunkravy_page_open(HUNKRAVY_AEGIS256, page, sizeof key + 256 + TAG_BYTES, id, 0, key, sizeof key) == 0);
@@ -570,18 +233,7 @@ static void begin_scene(struct scene *scene)
     kill_scene(scene);
     memset(&scene->disk, 0, sizeof scene->disk);
     scene->first = scene->last = 0;
-    scene->disk.calls_left = scene->disk.syncs_left = ALL;
     HOLDS(hunkravy_file_create_in(&scene->file, &storage, HUNKRAVY_AEGIS256, key, sizeof key, 0) == 0);
-}
-
-static const char *name_of(int code)
-{
-    return code == 0                     ? "ok"
-        : code == HUNKRAVY_OPEN_BATCH    ? "open-batch"
-        : code == HUNKRAVY_WRONG_STATE   ? "wrong-state"
-        : code == HUNKRAVY_FILE_TOO_LONG ? "too-long"
-        : code == ENOSPC                 ? "no-room"
-                                         : "another code";
 }
 
 /* Compares contents with the hexadecimal bytes of a line. */
@@ -595,6 +247,15 @@ static int has_contents(hunkravy_file *file, const char *expected)
     return length == bytes.length && memcmp(found, bytes.at, length) == 0;
 }
 
+static int has_stored(struct disk disk, const char *expected)
+{
+    struct hunkravy_storage storage = over(&disk);
+    hunkravy_file *file;
+    disk.is_full = 0;
+    HOLDS(hunkravy_file_open_in(&file, &storage, HUNKRAVY_AEGIS256, key, sizeof key) == 0);
+    return has_contents(file, expected) && hunkravy_file_close(file) == 0;
+}
+
 /* Takes the number of the batch that a line names. */
 static uint64_t named_batch(struct scene *scene, int is_outer)
 {
@@ -604,58 +265,53 @@ static uint64_t named_batch(struct scene *scene, int is_outer)
     return scene->ended = scene->batches[is_outer ? scene->first++ : --scene->last];
 }
 
-static int has_stored(const struct disk *from, const char *expected)
-{
-    static struct disk disk;
-    struct hunkravy_storage storage = over(&disk);
-    hunkravy_file *file;
-    int is_right;
-    disk = *from;
-    disk.is_locked = disk.is_full = 0;
-    HOLDS(hunkravy_file_open_in(&file, &storage, HUNKRAVY_AEGIS256, key, sizeof key) == 0);
-    is_right = has_contents(file, expected);
-    HOLDS(hunkravy_file_close(file) == 0);
-    return is_right;
-}
-
-/* Makes the call of a line, which has these words, and returns whether its result is right. */
-static int is_right_line(struct scene *scene, char **words)
+/* Makes the call of a line, which has these words, and returns its code. */
+static int made(struct scene *scene, char **words)
 {
     static struct bytes data;
     hunkravy_file *file = scene->file;
-    const char *call = words[0], *result = words[1];
-    uint64_t number = result == NULL ? 0 : strtoull(result, NULL, 10);
-    int code = 0;
+    const char *call = words[0];
+    uint64_t number = words[1] == NULL ? 0 : strtoull(words[1], NULL, 10);
     if (strcmp(call, "begin") == 0) {
-        code = hunkravy_file_begin(file, &scene->batches[scene->last++]);
-    } else if (strncmp(call, "end", 3) == 0) {
-        code = hunkravy_file_end(file, named_batch(scene, call[3] == '-'));
-    } else if (strncmp(call, "undo", 4) == 0) {
-        hunkravy_file_undo(file, named_batch(scene, call[4] == '-'));
-    } else if (strcmp(call, "write") == 0) {
+        return hunkravy_file_begin(file, &scene->batches[scene->last++]);
+    }
+    if (strncmp(call, "end", 3) == 0) {
+        return hunkravy_file_end(file, named_batch(scene, call[3] == '-'));
+    }
+    if (strcmp(call, "write") == 0) {
         read_bytes(&data, words[2]);
-        code = hunkravy_file_write(file, number, data.at, data.length);
-        result = words[3];
-    } else if (strcmp(call, "truncate") == 0) {
-        code = hunkravy_file_truncate(file, number);
-        result = words[2];
-    } else if (strcmp(call, "commit") == 0) {
-        code = hunkravy_file_commit(file);
-    } else if (strcmp(call, "discard") == 0) {
-        hunkravy_file_discard(file);
-    } else if (strcmp(call, "close") == 0) {
-        code = hunkravy_file_close(file);
+        return hunkravy_file_write(file, number, data.at, data.length);
+    }
+    if (strcmp(call, "truncate") == 0) {
+        return hunkravy_file_truncate(file, number);
+    }
+    if (strcmp(call, "commit") == 0) {
+        return hunkravy_file_commit(file);
+    }
+    if (strcmp(call, "close") == 0) {
         scene->file = NULL;
-    } else if (strcmp(call, "contents") == 0) {
-        return has_contents(file, words[1]);
-    } else if (strcmp(call, "stored") == 0) {
-        return has_stored(&scene->disk, words[1]);
+        return hunkravy_file_close(file);
+    }
+    if (strncmp(call, "undo", 4) == 0) {
+        hunkravy_file_undo(file, named_batch(scene, call[4] == '-'));
     } else {
-        HOLDS(strcmp(call, "no-room") == 0 || strcmp(call, "room") == 0);
-        scene->disk.is_full = call[0] == 'n';
+        HOLDS(strcmp(call, "discard") == 0);
+        hunkravy_file_discard(file);
+    }
+    return 0;
+}
+
+static int is_right_line(struct scene *scene, char **words, size_t count)
+{
+    if (strstr(words[0], "room") != NULL) {
+        scene->disk.is_full = words[0][0] == 'n';
         return 1;
     }
-    return strcmp(name_of(code), result) == 0;
+    if (strcmp(words[0], "contents") == 0) {
+        return has_contents(scene->file, words[1]);
+    }
+    return strcmp(words[0], "stored") == 0 ? has_stored(scene->disk, words[1])
+                                           : has_result(made(scene, words), words[count - 1]);
 }
 
 static void check_batches(void)
@@ -664,18 +320,19 @@ static void check_batches(void)
     FILE *table = fopen("testkit/batches.txt", "r");
     char line[200], *words[MOST_FIELDS];
     unsigned long scenes = 0;
+    size_t count;
 
     HOLDS(table != NULL);
     while (fgets(line, sizeof line, table) != NULL) {
-        scene.line++;
+        snprintf(row, sizeof row, "testkit/batches.txt:%d", ++scene.line);
         if (line[0] == '[') {
             begin_scene(&scene);
             scenes++;
-        } else if (line[0] != '#' && split(line, words) > 0 && !is_right_line(&scene, words)) {
-            fprintf(stderr, "testkit/batches.txt:%d: another result\n", scene.line);
-            HOLDS(!"what the table has");
+        } else if (line[0] != '#' && (count = split(line, words)) > 0) {
+            HOLDS(is_right_line(&scene, words, count));
         }
     }
+    row[0] = '\0';
     kill_scene(&scene);
     HOLDS(fclose(table) == 0 && scenes > 20);
 }
@@ -695,7 +352,6 @@ static void check_memory(void)
     if (__real_malloc == NULL) {
         return;
     }
-    disk.calls_left = disk.syncs_left = ALL;
     HOLDS(hunkravy_file_create_in(&file, &storage, HUNKRAVY_AEGIS256, key, sizeof key, 256) == 0);
     for (int turn = 0; turn < 20000; turn++) {
         uint64_t kind = draw(8);
@@ -742,6 +398,7 @@ static void check_system(void)
     char folder[] = "/tmp/check_file-XXXXXX", path[80], journal[90];
     hunkravy_file *file, *second;
     uint8_t mac[2][HUNKRAVY_FILE_COMMITMENT_BYTES];
+    uint64_t batch;
     size_t length;
     int fd;
 
@@ -766,6 +423,9 @@ static void check_system(void)
         HOLDS(draw(20) != 0 || hunkravy_file_commit(file) == 0);
         check_equal(file, &model);
     }
+    HOLDS(hunkravy_file_open_batches(file) == 0 && hunkravy_file_begin(file, &batch) == 0);
+    HOLDS(hunkravy_file_open_batches(file) == 1 && hunkravy_file_end(file, batch) == 0);
+    HOLDS(hunkravy_file_open_batches(file) == 0);
     HOLDS(hunkravy_file_write(file, UINT64_MAX, "x", 1) == HUNKRAVY_FILE_TOO_LONG);
     HOLDS(hunkravy_file_write(file, UINT64_C(1) << 59, "x", 1) == ENOMEM);
     /* A change has failed, so closing it would commit nothing. */
@@ -775,6 +435,9 @@ static void check_system(void)
     check_equal(file, &model);
     HOLDS(hunkravy_file_commit(file) == 0 && hunkravy_file_commitment(file, mac[1]) == 0);
     HOLDS(memcmp(mac[0], mac[1], sizeof mac[0]) != 0);
+    HOLDS(hunkravy_file_close(file) == 0);
+    HOLDS(hunkravy_file_open(&file, path, HUNKRAVY_AEGIS256, key, sizeof key) == 0);
+    HOLDS(hunkravy_file_commitment(file, mac[0]) == 0 && memcmp(mac[0], mac[1], sizeof mac[0]) == 0);
     HOLDS(hunkravy_file_close(file) == 0);
     /* A long journal of another file is rejected before there is memory for it. */
     fd = open(journal, O_WRONLY | O_CREAT | O_EXCL, 0600);
@@ -788,57 +451,12 @@ static void check_system(void)
     HOLDS(unlink(path) == 0 && rmdir(folder) == 0);
 }
 
-/* ---- Rows, as those of crates/example_batches */
-
-enum { ROWS = 5, ROW_DISTANCE = 10000 };
-
-static void run_batches(const char *path, int is_written)
+int main(void)
 {
-    static const uint8_t sevens[HUNKRAVY_AEGIS256_KEY_BYTES] = {
-        7, 7, 7, 7, 7, 7, 7, 7, 7, 7, 7, 7, 7, 7, 7, 7, 7, 7, 7, 7, 7, 7, 7, 7, 7, 7, 7, 7, 7, 7, 7, 7};
-    hunkravy_file *file;
-    uint64_t number = 0, found = 0, batch;
-    size_t length;
-
-    if (access(path, F_OK) == 0) {
-        HOLDS(hunkravy_file_open(&file, path, HUNKRAVY_AEGIS256, sevens, sizeof sevens) == 0);
-    } else {
-        HOLDS(hunkravy_file_create(&file, path, HUNKRAVY_AEGIS256, sevens, sizeof sevens, 0) == 0);
-        HOLDS(hunkravy_file_truncate(file, ROWS * ROW_DISTANCE) == 0 && hunkravy_file_commit(file) == 0);
-    }
-    for (uint64_t row = 0; row < ROWS; row++) {
-        HOLDS(
-            hunkravy_file_read(file, row * ROW_DISTANCE, &found, sizeof found, &length) == 0 && length == sizeof found);
-        HOLDS(row == 0 || found == number);
-        number = found;
-    }
-    printf("all rows hold %llu\n", (unsigned long long)number);
-    fflush(stdout);
-    while (is_written) {
-        number++;
-        HOLDS(hunkravy_file_begin(file, &batch) == 0);
-        for (uint64_t row = 0; row < ROWS; row++) {
-            HOLDS(hunkravy_file_write(file, row * ROW_DISTANCE, &number, sizeof number) == 0);
-        }
-        HOLDS(hunkravy_file_end(file, batch) == 0);
-    }
-    HOLDS(hunkravy_file_close(file) == 0);
-}
-
-int main(int argc, char **argv)
-{
-    if (argc > 2 && strcmp(argv[1], "batches") == 0) {
-        run_batches(argv[2], argc > 3);
-        return EXIT_SUCCESS;
-    }
-    for (size_t i = 0; i < 6; i++) {
-        check_calls((uint32_t)i, i % 2 == 0 ? 256 : 0);
-    }
     check_system();
     check_batches();
     check_zeros();
     check_memory();
-    check_crashes(argc == 2 && argv[1][0] >= '0' && argv[1][0] <= '9' ? strtoul(argv[1], NULL, 10) : 30);
-    printf("random-access files: %lu checks, %lu crashes, %lu with the change\n", checks, states, changed_states);
+    printf("random-access files: %lu checks\n", checks);
     return EXIT_SUCCESS;
 }

@@ -1,8 +1,7 @@
 /*
- * libsodium's calls of hunkravy_sodium.h, against the stored lines whose tags have 32 bytes. With
- * WITH_LIBSODIUM it is a test of libsodium itself: the same program with the other include line has
- * to find the same. Its parameter is the folder of the stored lines. It ends with status 0 only if
- * every result is right.
+ * libsodium's calls of hunkravy_sodium.h, against the stored lines whose tags have 32 bytes. With WITH_LIBSODIUM it is
+ * a test of libsodium itself: the same program with the other include line has to find the same. Its parameter is the
+ * folder of the stored lines. It ends with status 0 only if every result is right.
  */
 #ifndef _GNU_SOURCE
 #define _GNU_SOURCE

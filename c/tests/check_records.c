@@ -142,48 +142,15 @@ static void check_sealrec(const struct line *line)
     HOLDS(at == stream->length && is_zeros(&sealer) && is_zeros(&opener));
 }
 
-/*
- * Opens the record at the start of `left` bytes, adds its message to `found`, and returns how many
- * bytes the record has. After an error writes the line program's answer to `refusal`, and returns
- * 0.
- */
-static size_t open_next(
-    hunkravy_record_stream *st, const uint8_t *bytes, size_t left, struct bytes *found, int *is_last, char *refusal)
-{
-    size_t recordlen = 0, mlen = 0;
-    uint8_t *record;
-    int code = left < HEAD ? HUNKRAVY_OK : hunkravy_record_len(st, bytes, &recordlen);
-
-    if (code != HUNKRAVY_OK || left < HEAD || left < recordlen) {
-        strcpy(refusal, code == HUNKRAVY_OK ? "refused truncated" : "refused too long");
-        HOLDS(code == HUNKRAVY_OK || code == HUNKRAVY_MESSAGE_TOO_LONG);
-        return 0;
-    }
-    record = copied(bytes, recordlen);
-    code = hunkravy_record_open(st, record, recordlen, &mlen, is_last);
-    if (code == HUNKRAVY_OK) {
-        memcpy(found->at + found->length, record + HEAD, mlen);
-        found->length += mlen;
-        found->chunks[found->chunk_count++] = mlen;
-    } else {
-        check_is_damaged(st, bytes, recordlen);
-        sprintf(refusal, "refused damaged %lu", (unsigned long)found->chunk_count);
-        recordlen = 0;
-    }
-    free(record);
-    return recordlen;
-}
-
 /* The stream of the line has the messages of its answer, or is refused as its answer says. */
 static void check_openrec(const struct line *line)
 {
     static struct bytes found;
     const struct keys keys = keys_of(line);
-    const struct bytes *stream = &line->text, *messages = &line->answer[0];
+    const struct bytes *stream = &line->text;
     hunkravy_record_stream st;
-    char refusal[32] = "";
-    size_t at = HEADER, length;
-    int is_last = 0, code;
+    char fault[32];
+    int code;
 
     if (stream->length < HEADER) {
         return;
@@ -196,20 +163,11 @@ static void check_openrec(const struct line *line)
     }
     HOLDS(code == HUNKRAVY_OK);
     found.length = found.chunk_count = 0;
-    do {
-        length = open_next(&st, stream->at + at, stream->length - at, &found, &is_last, refusal);
-        at += length;
-    } while (length != 0 && !is_last);
-    if (is_last && at != stream->length) {
-        strcpy(refusal, "refused trailing");
-    }
+    open_records(&st, stream->at + HEADER, stream->length - HEADER, &found, fault);
     if (line->refusal != NULL) {
-        HOLDS(strcmp(refusal, line->refusal) == 0);
+        HOLDS(strcmp(strcmp(fault, "too-long") == 0 ? "too long" : fault, line->refusal + strlen("refused ")) == 0);
     } else {
-        HOLDS(refusal[0] == '\0' && found.length == messages->length && is_zeros(&st));
-        HOLDS(memcmp(found.at, messages->at, found.length) == 0);
-        HOLDS(found.chunk_count == messages->chunk_count);
-        HOLDS(memcmp(found.chunks, messages->chunks, found.chunk_count * sizeof(size_t)) == 0);
+        HOLDS(fault[0] == '\0' && is_zeros(&st) && are_same_chunks(&found, &line->answer[0]));
     }
 }
 

@@ -1,8 +1,7 @@
 /*
- * The calls on a state, of all six variants: the stored lines in chunks of several lengths, wrong
- * lengths and tags, states of another role, and states that have ended or were never initialised.
- * Its parameter is the folder of the stored lines. It ends with status 0 only if every result is
- * right.
+ * The calls on a state, of all six variants: the stored lines in chunks of several lengths, wrong lengths and tags,
+ * states of another role, and states that have ended or were never initialised. Its parameter is the folder of the
+ * stored lines. It ends with status 0 only if every result is right.
  */
 #include "check.h"
 
@@ -54,10 +53,7 @@ static void check_seal(const struct line *line)
     HOLDS(are_equal(mac, line->answer[1].at, line->number) && is_zeros(&st));
 }
 
-/*
- * Ends a message that was decrypted to `m`, which has one byte more. After a wrong length nothing
- * has changed.
- */
+/* Ends a message that was decrypted to `m`, which has one byte more. After a wrong length nothing has changed. */
 static void check_final(const struct line *line, hunkravy_state st, uint8_t *m)
 {
     const hunkravy_state old = st;
@@ -246,10 +242,7 @@ static void check_inits(uint32_t variant, size_t n)
     check_refused(st, ANY);
 }
 
-/*
- * The first call on a message decides its role, also one of no bytes. Nothing makes it a MAC, or a
- * MAC a message.
- */
+/* The first call on a message decides its role, also one of no bytes. Nothing makes it a MAC, or a MAC a message. */
 static void check_roles(uint32_t variant, size_t n)
 {
     uint8_t bytes[TAG_BYTES] = {0}, k[32] = {0};

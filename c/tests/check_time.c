@@ -1,13 +1,11 @@
 /*
- * Whether a branch or an address depends on a secret, for valgrind's memcheck. The calls on messages,
- * MACs, keystreams, records, pages and headers run on keys, nonces, associated data and messages that
- * are marked as undefined: memcheck reports each conditional branch and each address that depends on
- * such bytes. Lengths and returned codes are public. The calls on journals are not run.
- * tools/check_time.sh runs it.
+ * Whether a branch or an address depends on a secret, for valgrind's memcheck. The calls on messages, MACs, keystreams,
+ * records, pages and headers run on keys, nonces, associated data and messages that are marked as undefined: memcheck
+ * reports each conditional branch and each address that depends on such bytes. Lengths and returned codes are public.
+ * The calls on journals are not run. tools/check_time.sh runs it.
  *
- * The last word of its output is the number of openings at once, which is that of openings on a
- * state, of records, and of pages too. With the parameter `branch` or `address` it only does what
- * memcheck has to report.
+ * The last word of its output is the number of openings at once, which is that of openings on a state, of records, and
+ * of pages too. With the parameter `branch` or `address` it only does what memcheck has to report.
  */
 #include "check.h"
 
@@ -121,8 +119,7 @@ static void check_macs(const struct message *this)
 }
 
 /*
- * Two records, whatever the variant. The context is the message, whose length decides how much of
- * the stack it takes.
+ * Two records, whatever the variant. The context is the message, whose length decides how much of the stack it takes.
  */
 static void check_records(const struct message *this)
 {

@@ -32,15 +32,7 @@ from ._ciphers import (
     Encryptor,
 )
 from ._files import SealedFileError, SealedReader, SealedWriter, read_key
-from ._macs import (
-    Aegis128LMac,
-    Aegis128X2Mac,
-    Aegis128X4Mac,
-    Aegis256Mac,
-    Aegis256X2Mac,
-    Aegis256X4Mac,
-    Mac,
-)
+from ._macs import Aegis128LMac, Aegis128X2Mac, Aegis128X4Mac, Aegis256Mac, Aegis256X2Mac, Aegis256X4Mac, Mac
 from ._native import LEVEL as _LEVEL, InvalidTag
 from ._random_access import RandomAccessError, RandomAccessFile, RandomAccessStream
 from ._records import RecordError, RecordOpener, RecordSealer

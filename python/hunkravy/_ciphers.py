@@ -95,15 +95,11 @@ class Cipher(variants.Variant, variants.Secret):
         """
         return self._cipher.decrypt(nonce, data, NO_DATA if associated_data is None else associated_data, buf)
 
-    def encryptor(
-        self, nonce: _ReadableBuffer, associated_data: Optional[_ReadableBuffer] = None
-    ) -> Encryptor:
+    def encryptor(self, nonce: _ReadableBuffer, associated_data: Optional[_ReadableBuffer] = None) -> Encryptor:
         """Begins a message that is encrypted in chunks."""
         return Encryptor._of(self._begin(nonce, associated_data))
 
-    def decryptor(
-        self, nonce: _ReadableBuffer, associated_data: Optional[_ReadableBuffer] = None
-    ) -> Decryptor:
+    def decryptor(self, nonce: _ReadableBuffer, associated_data: Optional[_ReadableBuffer] = None) -> Decryptor:
         """Begins a ciphertext that is decrypted in chunks."""
         return Decryptor._of(self._begin(nonce, associated_data))
 

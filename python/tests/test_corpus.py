@@ -8,14 +8,7 @@ import unittest
 from typing import Callable, Iterator
 
 import vectors
-from hunkravy import (
-    RandomAccessError,
-    RandomAccessFile,
-    RecordError,
-    RecordOpener,
-    SealedFileError,
-    SealedReader,
-)
+from hunkravy import RandomAccessError, RandomAccessFile, RecordError, RecordOpener, SealedFileError, SealedReader
 
 CORPUS = pathlib.Path(__file__).parents[2] / "testkit" / "corpus"
 Case = dict[str, str]

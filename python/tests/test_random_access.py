@@ -7,7 +7,6 @@ import concurrent.futures
 import contextlib
 import copy
 import errno
-import fcntl
 import gc
 import io
 import os
@@ -139,29 +138,21 @@ class Files(unittest.TestCase):
                 file.write_at(0, b"x")
             self.assertEqual(path.stat().st_size, 8192)
 
-    def test_batches(self) -> None:
-        with RandomAccessFile.create(self.path, KEY) as file:
-            with file.batch():
-                file.write_at(0, b"first")
-                with self.assertRaises(ZeroDivisionError), file.batch():
-                    file.write_at(0, b"other")
-                    1 / 0
-                with file.batch():
-                    file.write_at(5, b", second")
-            self.assertEqual(file.read_at(0, 99), b"first, second")
+    def test_exceptions_in_blocks(self) -> None:
+        """They undo a batch, and a file commits nothing. Nor does one that is dropped."""
+        with RandomAccessFile.create(self.path, KEY) as file, file.batch():
+            file.write_at(0, b"first")
             with self.assertRaises(ZeroDivisionError), file.batch():
                 file.truncate(0)
-                file.write_at(10, b"x")
                 1 / 0
-            self.assertEqual(file.read_at(0, 99), b"first, second")
-        self.assertEqual(contents(self.path), b"first, second")
+        self.assertEqual(contents(self.path), b"first")
         with self.assertRaises(ZeroDivisionError), RandomAccessFile(self.path, KEY) as file:
             file.write_at(0, b"lost")
             1 / 0
         file = RandomAccessFile(self.path, KEY)
         file.write_at(0, b"lost")
         del file
-        self.assertEqual(contents(self.path), b"first, second")
+        self.assertEqual(contents(self.path), b"first")
 
     def test_the_table_of_batches(self) -> None:
         scenes: list[list[list[str]]] = []
@@ -174,19 +165,6 @@ class Files(unittest.TestCase):
         for number, scene in enumerate(scenes):
             with self.subTest(number=number):
                 Scene(self.folder / str(number)).play(scene)
-
-    def test_a_journal_of_another_file(self) -> None:
-        RandomAccessFile.create(self.path, KEY).close()
-        self.leave_journal(self.path)
-        journal = (self.folder / "file.journal").read_bytes()
-        other = self.folder / "other"
-        RandomAccessFile.create(other, KEY, page_size=PAGE).close()
-        for data in (journal, journal[:600]):
-            (self.folder / "other.journal").write_bytes(data)
-            self.assertCause("journal", RandomAccessFile, other, KEY)
-            self.assertEqual((self.folder / "other.journal").read_bytes(), data)
-        (self.folder / "other.journal").write_bytes(journal[:512])
-        self.assertEqual(contents(other), b"")
 
     def test_a_batch_that_is_left_open(self) -> None:
         with RandomAccessFile.create(self.path, KEY) as file:
@@ -392,24 +370,15 @@ class Files(unittest.TestCase):
                 file.write_at(0, b"after")
         self.assertEqual(contents(self.path), b"after")
 
-    def test_a_file_that_is_being_created(self) -> None:
-        """Whoever has just created it locks it next, and must not find it locked."""
-        self.path.touch()
-        with self.path.open() as other:
-            fcntl.flock(other, fcntl.LOCK_EX)
-            self.assertCause("header", RandomAccessFile, self.path, KEY)
-
     def test_the_longest_name(self) -> None:
         path = self.path.with_name("x" * (255 - len(".journal")))
         RandomAccessFile.create(path, KEY).close()
         self.leave_journal(path)
         self.assertEqual(contents(path)[-5:], b"after")
 
-    def test_damage_and_wrong_keys(self) -> None:
+    def test_damage(self) -> None:
         with RandomAccessFile.create(self.path, KEY) as file:
             file.write_at(0, bytes(9000))
-        self.assertCause("header", RandomAccessFile, self.path, bytes(32))
-        self.assertCause("header", RandomAccessFile, self.path, bytes(16), cipher=Aegis128L)
         data = bytearray(self.path.read_bytes())
         data[4096 * 2 + 50] ^= 1
         self.path.write_bytes(data)
@@ -476,6 +445,13 @@ class Files(unittest.TestCase):
         # Closing raises the error once more, and commits nothing.
         self.assertRaises(OSError, file.close)
         self.assertEqual(contents(self.path), bytes(9000))
+        # Without room for a copy of its journal a file does not open.
+        self.leave_journal(self.path)
+        before = {path: path.read_bytes() for path in self.folder.iterdir()}
+        with limited(1000):
+            self.assertRaises(OSError, RandomAccessFile, self.path, KEY)
+        self.assertEqual({path: path.read_bytes() for path in self.folder.iterdir()}, before)
+        self.assertEqual(contents(self.path)[-5:], b"after")
 
     def test_threads(self) -> None:
         def work(number: Any) -> Any:

@@ -274,20 +274,5 @@ reader = SealedReader(Slow(file.getvalue()), bytes(32)); work, call = (lambda: r
                 self.assertEqual(self.ends(objects), "raised")
 
 
-class Chunks(unittest.TestCase):
-    def test_random_chunks(self) -> None:
-        numbers = random.Random(1)
-        cipher = Aegis128L(bytes(16), 16)
-        for length in range(0, 3000, 37):
-            message, nonce = numbers.randbytes(length), numbers.randbytes(16)
-            encryptor, decryptor = cipher.encryptor(nonce, b"header"), cipher.decryptor(nonce, b"header")
-            start = 0
-            while start < length:
-                end = start + numbers.randrange(300)
-                decryptor.update(encryptor.update(message[start:end]))
-                start = end
-            self.assertEqual(decryptor.finalize(encryptor.finalize()), message)
-
-
 if __name__ == "__main__":
     unittest.main()

@@ -61,8 +61,7 @@ fn main() -> Result<()> {
     let mut key: Key = [0; 32];
     fill_random(&mut key)?;
     let (mut near, mut far) = UnixStream::pair()?;
-    let sender =
-        thread::spawn(move || send(&mut near, &key, &["the first message"], "the last message"));
+    let sender = thread::spawn(move || send(&mut near, &key, &["the first message"], "the last message"));
     receive(&mut far, &key)?;
     sender.join().expect("the sender does not panic")
 }

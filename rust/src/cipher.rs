@@ -52,10 +52,7 @@ impl<V: Variant, const TAG_BYTES: usize> Cipher<V, TAG_BYTES> {
     /// ```
     pub fn new(key: &V::Key, nonce: &V::Nonce) -> Self {
         assert_tag_bytes::<TAG_BYTES>();
-        Self {
-            key: *key,
-            nonce: *nonce,
-        }
+        Self { key: *key, nonce: *nonce }
     }
 
     /// Encrypts a message. Returns its ciphertext and its tag, which authenticates the associated data `ad` too.
@@ -73,14 +70,7 @@ impl<V: Variant, const TAG_BYTES: usize> Cipher<V, TAG_BYTES> {
     pub fn encrypt_in_place(self, mc: &mut [u8], ad: &[u8]) -> Tag<TAG_BYTES> {
         let mut tag = [0; TAG_BYTES];
         let (nonce, key) = (self.nonce.as_ref(), self.key.as_ref());
-        done(exports::encrypt_in_place(
-            V::NUMBER,
-            mc,
-            ad,
-            nonce,
-            key,
-            &mut tag,
-        ));
+        done(exports::encrypt_in_place(V::NUMBER, mc, ad, nonce, key, &mut tag));
         tag
     }
 
@@ -112,21 +102,9 @@ impl<V: Variant, const TAG_BYTES: usize> Cipher<V, TAG_BYTES> {
     /// assert_eq!(buffer, [hunkravy::ERASED; 13]);
     /// ```
     #[track_caller]
-    pub fn decrypt_in_place(
-        self,
-        mc: &mut [u8],
-        tag: &Tag<TAG_BYTES>,
-        ad: &[u8],
-    ) -> Result<(), Error> {
+    pub fn decrypt_in_place(self, mc: &mut [u8], tag: &Tag<TAG_BYTES>, ad: &[u8]) -> Result<(), Error> {
         let (nonce, key) = (self.nonce.as_ref(), self.key.as_ref());
-        accepted(exports::decrypt_in_place(
-            V::NUMBER,
-            mc,
-            ad,
-            nonce,
-            key,
-            tag,
-        ))
+        accepted(exports::decrypt_in_place(V::NUMBER, mc, ad, nonce, key, tag))
     }
 
     /// Fills `out` with the beginning of the keystream. `TAG_BYTES` has no effect on it.
@@ -175,11 +153,7 @@ impl<V: Variant, const TAG_BYTES: usize> Cipher<V, TAG_BYTES> {
 
     /// Begins to decrypt a message in chunks, into `plaintext`, which must have room for the whole message.
     #[track_caller]
-    pub fn decryptor<'a>(
-        &self,
-        associated_data: &[u8],
-        plaintext: &'a mut [u8],
-    ) -> Decryptor<'a, V, TAG_BYTES> {
+    pub fn decryptor<'a>(&self, associated_data: &[u8], plaintext: &'a mut [u8]) -> Decryptor<'a, V, TAG_BYTES> {
         Decryptor::new(self.begin(associated_data), plaintext)
     }
 

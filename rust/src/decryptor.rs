@@ -44,12 +44,7 @@ pub struct Decryptor<'a, V: Variant, const TAG_BYTES: usize> {
 impl<'a, V: Variant, const TAG_BYTES: usize> Decryptor<'a, V, TAG_BYTES> {
     /// Goes on with a message that was begun.
     pub(crate) fn new(state: State, plaintext: &'a mut [u8]) -> Self {
-        Self {
-            state,
-            variant: PhantomData,
-            plaintext,
-            written: 0,
-        }
+        Self { state, variant: PhantomData, plaintext, written: 0 }
     }
 
     /// Decrypts the next chunk of the ciphertext.
@@ -69,19 +64,14 @@ impl<'a, V: Variant, const TAG_BYTES: usize> Decryptor<'a, V, TAG_BYTES> {
     /// assert_eq!(decryptor.update(&[0; 4]), Ok(()));
     /// ```
     pub fn update(&mut self, ciphertext: &[u8]) -> Result<(), Error> {
-        let chunk = self.plaintext[self.written..]
-            .get_mut(..ciphertext.len())
-            .ok_or(Error::OutputBufferTooSmall)?;
+        let chunk = self.plaintext[self.written..].get_mut(..ciphertext.len()).ok_or(Error::OutputBufferTooSmall)?;
         if ciphertext.len() as u64 > MAX_AEAD_BYTES - self.state.message_bytes {
             return Err(Error::MessageTooLong);
         }
         // It is counted first, so that it is erased in any case.
         self.written += ciphertext.len();
         chunk.copy_from_slice(ciphertext);
-        done(exports::state_decrypt_in_place_unverified(
-            &mut self.state,
-            chunk,
-        ));
+        done(exports::state_decrypt_in_place_unverified(&mut self.state, chunk));
         Ok(())
     }
 

@@ -35,10 +35,7 @@ pub struct Encryptor<V: Variant, const TAG_BYTES: usize> {
 impl<V: Variant, const TAG_BYTES: usize> Encryptor<V, TAG_BYTES> {
     /// Goes on with a message that was begun.
     pub(crate) fn new(state: State) -> Self {
-        Self {
-            state,
-            variant: PhantomData,
-        }
+        Self { state, variant: PhantomData }
     }
 
     /// Encrypts the next chunk into `ciphertext`, which must have the same length.
@@ -49,15 +46,8 @@ impl<V: Variant, const TAG_BYTES: usize> Encryptor<V, TAG_BYTES> {
     /// changed then.
     #[track_caller]
     pub fn update(&mut self, plaintext: &[u8], ciphertext: &mut [u8]) {
-        assert_eq!(
-            plaintext.len(),
-            ciphertext.len(),
-            "the buffers must have equal length"
-        );
-        assert!(
-            plaintext.len() as u64 <= self.remaining(),
-            "the message is longer than 2^61 - 1 bytes"
-        );
+        assert_eq!(plaintext.len(), ciphertext.len(), "the buffers must have equal length");
+        assert!(plaintext.len() as u64 <= self.remaining(), "the message is longer than 2^61 - 1 bytes");
         ciphertext.copy_from_slice(plaintext);
         self.update_in_place(ciphertext);
     }

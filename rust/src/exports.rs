@@ -182,15 +182,8 @@ const _: () = assert!(size_of::<State>() == 672);
 
 impl State {
     /// A state that has ended. Only the functions that begin one accept it.
-    pub const ENDED: Self = Self {
-        mark: 0,
-        rows: [[0; 128]; 4],
-        block: [0; 128],
-        data_bytes: 0,
-        message_bytes: 0,
-        variant: 0,
-        role: 0,
-    };
+    pub const ENDED: Self =
+        Self { mark: 0, rows: [[0; 128]; 4], block: [0; 128], data_bytes: 0, message_bytes: 0, variant: 0, role: 0 };
 }
 
 impl Drop for State {
@@ -224,21 +217,13 @@ unsafe impl Sync for Records<'_> {}
 
 impl Records<'_> {
     /// A stream that has ended. Only the functions that begin one accept it.
-    pub const ENDED: Self = Self {
-        opaque: [0; OPAQUE_WORDS],
-        context: core::ptr::null(),
-        context_len: 0,
-        borrowed: PhantomData,
-    };
+    pub const ENDED: Self =
+        Self { opaque: [0; OPAQUE_WORDS], context: core::ptr::null(), context_len: 0, borrowed: PhantomData };
 
     /// Seals the next message in place: it has [`RECORD_HEAD_BYTES`] in front of it, and 32 bytes after it for the tag. The
     /// last one ends the stream. Panics if there are fewer bytes.
     pub fn seal(&mut self, record: &mut [u8], is_last: bool) -> Answer {
-        let seal = if is_last {
-            hunkravy_record_seal_last
-        } else {
-            hunkravy_record_seal
-        };
+        let seal = if is_last { hunkravy_record_seal_last } else { hunkravy_record_seal };
         let message_len = record.len().checked_sub(RECORD_BYTES);
         let message_len = message_len.expect("a record has room for its head and its tag");
         // SAFETY: the pointer is that of as many bytes as the record of a message of this length has, borrowed exclusively.
@@ -262,8 +247,7 @@ mod tests {
     #[test]
     fn states_that_were_dropped() {
         let mut st = State::ENDED;
-        let begun = state_init(3, &mut st, b"", &[2; 32], &[1; 32]);
-        assert!(begun.is_ok() && st != State::ENDED);
+        assert!(state_init(3, &mut st, b"", &[2; 32], &[1; 32]).is_ok() && st != State::ENDED);
         assert_eq!(left_of(st, |st| st), State::ENDED);
     }
 

@@ -36,17 +36,13 @@ impl<V: Variant, const TAG_BYTES: usize> Mac<V, TAG_BYTES> {
         Self::new_with_nonce(key, &V::Nonce::default())
     }
 
-    /// Begins a MAC under a key and a nonce. `TAG_BYTES` is 16 or 32: with another length the program
-    /// does not compile.
+    /// Begins a MAC under a key and a nonce. `TAG_BYTES` is 16 or 32: with another length the program does not compile.
     pub fn new_with_nonce(key: &V::Key, nonce: &V::Nonce) -> Self {
         assert_tag_bytes::<TAG_BYTES>();
         let mut state = State::ENDED;
         let (nonce, key) = (nonce.as_ref(), key.as_ref());
         done(exports::mac_init(V::NUMBER, &mut state, nonce, key));
-        Self {
-            state,
-            variant: PhantomData,
-        }
+        Self { state, variant: PhantomData }
     }
 
     /// Adds the next chunk of the input.
@@ -94,10 +90,7 @@ impl<V: Variant, const TAG_BYTES: usize> Mac<V, TAG_BYTES> {
 
 impl<V: Variant, const TAG_BYTES: usize> Clone for Mac<V, TAG_BYTES> {
     fn clone(&self) -> Self {
-        Self {
-            state: self.state.clone(),
-            variant: PhantomData,
-        }
+        Self { state: self.state.clone(), variant: PhantomData }
     }
 }
 

@@ -6,8 +6,7 @@ use std::io::{self, ErrorKind};
 /// Returns an empty vector with room for this number of values, or an error if memory runs out.
 pub(crate) fn with_room<T>(count: usize) -> io::Result<Vec<T>> {
     let mut vector = Vec::new();
-    let reserved = vector.try_reserve_exact(count);
-    reserved.map_err(|_| ErrorKind::OutOfMemory)?;
+    vector.try_reserve_exact(count).map_err(|_| ErrorKind::OutOfMemory)?;
     Ok(vector)
 }
 

@@ -242,10 +242,7 @@ impl<A: Algorithm, I: RafIo, R: RafRng, J: RafIo> Raf<A, I, R, J> {
 
     /// Returns a cursor at the start of the contents, which is `Read`, `Write` and `Seek`.
     pub fn cursor(&mut self) -> RafCursor<'_, A, I, R, J> {
-        RafCursor {
-            file: self,
-            offset: 0,
-        }
+        RafCursor { file: self, offset: 0 }
     }
 
     /// Returns the commitment of the file at the last commit: a MAC, under the key, of the counter and the size in its header and
@@ -267,15 +264,12 @@ impl<A: Algorithm, I: RafIo, R: RafRng, J: RafIo> Raf<A, I, R, J> {
     ///
     /// [`Error::Commitment`] if it is not, [`Error::Io`] or [`Error::Broken`].
     pub fn verify(&mut self, expected: &[u8; 32]) -> Result<()> {
-        let mac = self.engine.commitment()?;
-        mac.verify(expected).map_err(|_| Error::Commitment)
+        self.engine.commitment()?.verify(expected).map_err(|_| Error::Commitment)
     }
 }
 
 impl<A: Algorithm, I: RafIo, R: RafRng, J: RafIo> fmt::Debug for Raf<A, I, R, J> {
     fn fmt(&self, f: &mut fmt::Formatter<'_>) -> fmt::Result {
-        f.debug_struct("Raf")
-            .field("size", &self.size())
-            .finish_non_exhaustive()
+        f.debug_struct("Raf").field("size", &self.size()).finish_non_exhaustive()
     }
 }

@@ -36,16 +36,10 @@ fn device(path: &str) -> io::Result<File> {
 
 #[cfg(test)]
 mod tests {
-    use super::{device, fill_random};
+    use super::device;
 
     #[test]
-    fn two_keys_differ() {
-        let mut keys = [[0; 32]; 2];
-        for key in &mut keys {
-            fill_random(key).unwrap();
-        }
-        assert_ne!(keys[0], keys[1]);
-        assert!(keys.iter().all(|key| key[24..] != [0; 8]));
+    fn only_a_device_is_read() {
         assert!(device("/dev/null").is_ok() && device("/proc/version").is_err());
     }
 }

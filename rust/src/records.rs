@@ -70,8 +70,6 @@ impl Position {
     #[must_use]
     pub fn offset(self) -> u64 {
         let records = self.number.saturating_mul(RECORD_BYTES as u64);
-        records
-            .saturating_add(self.before)
-            .saturating_add(HEADER_BYTES as u64)
+        records.saturating_add(self.before).saturating_add(HEADER_BYTES as u64)
     }
 }

@@ -44,12 +44,7 @@ pub(crate) mod sealed {
 
 /// Fails to compile for any tag length but 16 and 32 bytes.
 pub(crate) const fn assert_tag_bytes<const TAG_BYTES: usize>() {
-    const {
-        assert!(
-            TAG_BYTES == 16 || TAG_BYTES == 32,
-            "TAG_BYTES must be 16 or 32"
-        )
-    }
+    const { assert!(TAG_BYTES == 16 || TAG_BYTES == 32, "TAG_BYTES must be 16 or 32") }
 }
 
 /// Declares the variants, each with its type, which is `Copy` if its cipher is, and its module: names for the generic types with

@@ -14,8 +14,7 @@ mod build;
 fn targets() {
     for processor in ["x86_64", "aarch64"] {
         for library in ["gnu", "musl"] {
-            let target = format!("{processor}-unknown-linux-{library}");
-            assert_eq!(build::check_target(&target), Ok(()));
+            assert_eq!(build::check_target(&format!("{processor}-unknown-linux-{library}")), Ok(()));
         }
     }
     for target in [
@@ -29,8 +28,7 @@ fn targets() {
         "",
     ] {
         let message = build::check_target(target).unwrap_err();
-        let expected = format!("with glibc or musl, not for {target}");
-        assert!(message.contains(&expected), "{message}");
+        assert!(message.contains(&format!("with glibc or musl, not for {target}")), "{message}");
     }
 }
 
@@ -59,30 +57,23 @@ impl Script {
         command.env("PATH", std::env::var_os("PATH").unwrap());
         command.env("PKG_CONFIG", "/nowhere/pkg-config");
         let output = command.envs(variables.iter().copied()).output().unwrap();
-        let printed = String::from_utf8(output.stdout).unwrap();
-        printed.lines().map(str::to_owned).collect()
+        String::from_utf8(output.stdout).unwrap().lines().map(str::to_owned).collect()
     }
 
     /// Checks that the folder is found with these variables, or none.
     fn finds(&self, variables: &[(&str, &Path)], folder: Option<&Path>) {
         let printed = self.run(variables);
         let has = |line: &str| printed.iter().any(|text| text.starts_with(line));
-        for variable in [
-            "HUNKRAVY_LIB_DIR",
-            "PKG_CONFIG",
-            "PKG_CONFIG_PATH",
-            "PKG_CONFIG_LIBDIR",
-            "PKG_CONFIG_SYSROOT_DIR",
-        ] {
-            let line = format!("cargo::rerun-if-env-changed={variable}");
-            assert!(printed.contains(&line), "{printed:?}");
+        for variable in
+            ["HUNKRAVY_LIB_DIR", "PKG_CONFIG", "PKG_CONFIG_PATH", "PKG_CONFIG_LIBDIR", "PKG_CONFIG_SYSROOT_DIR"]
+        {
+            assert!(printed.contains(&format!("cargo::rerun-if-env-changed={variable}")), "{printed:?}");
         }
         let found = printed.iter().filter(|line| line.contains("link-search"));
         let shown = folder.map_or("lib".to_owned(), |folder| folder.display().to_string());
         let expected = folder.map(|_| format!("cargo::rustc-link-search=native={shown}"));
         assert!(found.eq(&expected), "{printed:?}");
-        let again = format!("cargo::rerun-if-changed={shown}/libhunkravy.a");
-        assert!(printed.contains(&again), "{printed:?}");
+        assert!(printed.contains(&format!("cargo::rerun-if-changed={shown}/libhunkravy.a")), "{printed:?}");
         assert_eq!(has("cargo::warning="), folder.is_none(), "{printed:?}");
     }
 
@@ -91,8 +82,7 @@ impl Script {
         let folder = self.package.join(name);
         fs::create_dir_all(&folder).unwrap();
         let object = b"!<arch>\n(its names)\x7fELF\x02\x01\x01\0\0\0\0\0\0\0\0\0\x01\0";
-        let archive = [&object[..], &[machine, 0, 1]].concat();
-        fs::write(folder.join("libhunkravy.a"), archive).unwrap();
+        fs::write(folder.join("libhunkravy.a"), [&object[..], &[machine, 0, 1]].concat()).unwrap();
         folder.canonicalize().unwrap()
     }
 }
@@ -110,8 +100,7 @@ fn the_library_that_is_found() {
     let installed = script.with_archive("installed", X86_64);
     let pkg_config = script.package.join("pkg-config");
     let question = "[ \"$*\" = '--variable=libdir hunkravy' ]";
-    let text = format!("#!/bin/sh\n{question} && echo {}\n", installed.display());
-    fs::write(&pkg_config, text).unwrap();
+    fs::write(&pkg_config, format!("#!/bin/sh\n{question} && echo {}\n", installed.display())).unwrap();
     fs::set_permissions(&pkg_config, Permissions::from_mode(0o755)).unwrap();
     let _ = fs::remove_dir_all(script.package.join("lib"));
     let empty = script.package.join("named/none");
@@ -133,17 +122,9 @@ fn the_library_of_another_processor() {
     let script = Script::new("another-processor");
     for (target, machine, error) in [
         ("x86_64-unknown-linux-gnu", X86_64, None),
-        (
-            "x86_64-unknown-linux-musl",
-            AARCH64,
-            Some("is not for x86_64"),
-        ),
+        ("x86_64-unknown-linux-musl", AARCH64, Some("is not for x86_64")),
         ("x86_64-unknown-linux-gnu", 0, Some("is not for x86_64")),
-        (
-            "aarch64-unknown-linux-gnu",
-            X86_64,
-            Some("is not for aarch64"),
-        ),
+        ("aarch64-unknown-linux-gnu", X86_64, Some("is not for aarch64")),
         ("aarch64-unknown-linux-musl", AARCH64, None),
         ("x86_64-apple-darwin", X86_64, Some("cargo::error=")),
     ] {
@@ -194,14 +175,12 @@ fn cargo(command: &str, program: &str, name: &str, dependency: &str) -> (bool, S
     let program = format!("{package}/tests/programs/{program}.rs");
     let manifest = MANIFEST.replace("NAME", name).replace("PROGRAM", &program);
     let dependency = dependency.replace("PATH", &format!("path = \"{package}\""));
-    let manifest = manifest.replace("DEPENDENCY", &dependency);
-    fs::write(folder.join("Cargo.toml"), manifest).unwrap();
+    fs::write(folder.join("Cargo.toml"), manifest.replace("DEPENDENCY", &dependency)).unwrap();
     let mut cargo = Command::new(env!("CARGO"));
     cargo.args([command, "--offline", "--message-format=short"]);
     cargo.arg("--target-dir").arg(self::folder("target"));
     let output = cargo.current_dir(&folder).output().unwrap();
-    let printed = String::from_utf8_lossy(&output.stderr).into_owned();
-    (output.status.success(), printed)
+    (output.status.success(), String::from_utf8_lossy(&output.stderr).into_owned())
 }
 
 /// Without its feature `std` the crate needs `core` and `alloc` alone. With it the same program has two panic handlers.
@@ -230,9 +209,7 @@ fn drops_overwrite() {
             line.ends_with(':') && ["exports", state, "drop"].into_iter().all(is_of)
         };
         let mut drops = functions.iter().filter(|text| text.lines().any(is_drop));
-        let drop = drops
-            .next()
-            .unwrap_or_else(|| panic!("{state} is not dropped"));
+        let drop = drops.next().unwrap_or_else(|| panic!("{state} is not dropped"));
         assert!(drop.contains("hunkravy_wipe"), "{drop}");
     }
 }
@@ -288,8 +265,7 @@ fn stream_struct_has_the_size_of_the_header() {
     let exports = include_str!("../src/exports.rs");
     let (_, words) = exports.split_once("OPAQUE_WORDS: usize = ").unwrap();
     let words = words.split(';').next().unwrap();
-    let header = include_str!("../../c/include/hunkravy_records.h");
-    assert!(header.contains(&format!("uint64_t opaque[{words}]")));
+    assert!(include_str!("../../c/include/hunkravy_records.h").contains(&format!("uint64_t opaque[{words}]")));
 }
 
 /// Cargo links the library into a program once: two versions of the package are an error.
@@ -301,6 +277,5 @@ fn the_library_is_linked_once() {
 /// The page's samples are tests of the crate's documentation, so it has to have some.
 #[test]
 fn samples_of_the_page() {
-    let page = include_str!("../README.md");
-    assert!(page.matches("```rust\nuse hunkravy::").count() >= 3);
+    assert!(include_str!("../README.md").matches("```rust\nuse hunkravy::").count() >= 3);
 }

@@ -55,11 +55,7 @@ fn for_each(name: &str, check: impl Fn(&Case)) -> usize {
     let text = fs::read_to_string(folder.join(name)).unwrap();
     let cases = text.split("\n\n").map(|case| {
         let fields = case.lines().map(|line| line.split_once(": ").unwrap());
-        Case(
-            fields
-                .map(|(name, text)| (name.into(), text.into()))
-                .collect(),
-        )
+        Case(fields.map(|(name, text)| (name.into(), text.into())).collect())
     });
     cases.map(|case| check(&case)).count()
 }
@@ -100,11 +96,7 @@ fn record_streams() {
     let count = for_each("records.txt", |case| {
         // A stream of version 1 is none that the package knows.
         let is_old = case.bytes("stream").starts_with(b"AGR1");
-        let expected = if is_old {
-            Err("header".to_owned())
-        } else {
-            case.result()
-        };
+        let expected = if is_old { Err("header".to_owned()) } else { case.result() };
         check(case, opened_records(case).map_err(name_of), expected);
     });
     assert!(count >= 70);
@@ -139,13 +131,8 @@ where
 
 fn check_pages(case: &Case, path: &Path) {
     let journal = path.with_extension("journal");
-    let files = [
-        (path, case.bytes("file")),
-        (&journal, case.bytes("journal")),
-    ];
-    files
-        .iter()
-        .for_each(|(path, bytes)| fs::write(path, bytes).unwrap());
+    let files = [(path, case.bytes("file")), (&journal, case.bytes("journal"))];
+    files.iter().for_each(|(path, bytes)| fs::write(path, bytes).unwrap());
     let opened = match case.0["variant"].as_str() {
         "aegis128l" => opened_pages::<raf::Aegis128L>(case, path),
         "aegis128x2" => opened_pages::<raf::Aegis128X2>(case, path),
@@ -155,22 +142,17 @@ fn check_pages(case: &Case, path: &Path) {
         "aegis256x4" => opened_pages::<raf::Aegis256X4>(case, path),
         other => panic!("{other}"),
     };
-    let found = opened
-        .map(|contents| vec![contents])
-        .map_err(|error| match error {
-            raf::Error::Damaged(number) => format!("damaged {number}"),
-            raf::Error::Io(error) if error.kind() == ErrorKind::UnexpectedEof => {
-                "missing".to_owned()
-            }
-            raf::Error::Header | raf::Error::Journal => {
-                // Nothing has changed.
-                let kept =
-                    |(path, bytes): &(&Path, Vec<u8>)| fs::read(path).unwrap_or_default() == *bytes;
-                assert!(files.iter().all(kept), "{}", case.0["case"]);
-                format!("{error:?}").to_lowercase()
-            }
-            other => format!("{other:?}"),
-        });
+    let found = opened.map(|contents| vec![contents]).map_err(|error| match error {
+        raf::Error::Damaged(number) => format!("damaged {number}"),
+        raf::Error::Io(error) if error.kind() == ErrorKind::UnexpectedEof => "missing".to_owned(),
+        raf::Error::Header | raf::Error::Journal => {
+            // Nothing has changed.
+            let kept = |(path, bytes): &(&Path, Vec<u8>)| fs::read(path).unwrap_or_default() == *bytes;
+            assert!(files.iter().all(kept), "{}", case.0["case"]);
+            format!("{error:?}").to_lowercase()
+        }
+        other => format!("{other:?}"),
+    });
     check(case, found, case.result());
 }
 
@@ -178,9 +160,7 @@ fn check_pages(case: &Case, path: &Path) {
 fn random_access_files() {
     let folder = env::temp_dir().join(format!("hunkravy-corpus-{}", process::id()));
     fs::create_dir(&folder).unwrap();
-    let count = for_each("random-access.txt", |case| {
-        check_pages(case, &folder.join("file"))
-    });
+    let count = for_each("random-access.txt", |case| check_pages(case, &folder.join("file")));
     assert!(count >= 110);
     println!("{count} random-access files");
     fs::remove_dir_all(&folder).unwrap();

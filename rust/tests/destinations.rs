@@ -120,9 +120,6 @@ mod checks {
         assert_eq!(ciphertext, [UNWRITTEN; 10]);
         encryptor.update(b"a message", &mut ciphertext[..9]);
         let (expected, tag) = sealed::<V>(b"a message");
-        assert_eq!(
-            (&ciphertext[..9], encryptor.finalize()),
-            (&expected[..], tag)
-        );
+        assert_eq!((&ciphertext[..9], encryptor.finalize()), (&expected[..], tag));
     }
 }

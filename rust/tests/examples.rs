@@ -23,9 +23,6 @@ fn messages() {
     assert_eq!(printed("first", &[]), "");
     let expected = "the first message\nthe last message\n";
     assert_eq!(printed("records", &[]), expected);
-    let printed = printed("seal", &[]);
-    assert_eq!(printed.lines().count(), 3);
-    assert!(printed.ends_with("opened, and rejected with another header\n"));
 }
 
 #[test]
@@ -34,20 +31,14 @@ fn store() {
     let folder = PathBuf::from(env!("CARGO_TARGET_TMPDIR")).join("store");
     let _ = fs::remove_dir_all(&folder);
     fs::create_dir_all(&folder).unwrap();
-    let [key, other, file] =
-        ["key", "other", "file"].map(|name| folder.join(name).to_str().unwrap().to_owned());
+    let [key, other, file] = ["key", "other", "file"].map(|name| folder.join(name).to_str().unwrap().to_owned());
     fs::write(&key, [1; 32]).unwrap();
     fs::write(&other, [2; 32]).unwrap();
-    let missing = run("store", &[&key, &file]);
-    assert!(!missing.status.success() && !Path::new(&file).exists());
+    assert!(!run("store", &[&key, &file]).status.success() && !Path::new(&file).exists());
     assert_eq!(printed("store", &[&key, &file, "b=1"]), "b=1\n");
     assert_eq!(printed("store", &[&key, &file, "a=2"]), "a=2\nb=1\n");
     assert_eq!(printed("store", &[&key, &file, "b="]), "a=2\nb=\n");
-    for refused in [
-        [&other[..], &file, "a=3"],
-        [&key, &file, "a"],
-        [&key, &file, "a=\n"],
-    ] {
+    for refused in [[&other[..], &file, "a=3"], [&key, &file, "a"], [&key, &file, "a=\n"]] {
         assert!(!run("store", &refused).status.success());
     }
     assert_eq!(printed("store", &[&key, &file]), "a=2\nb=\n");

@@ -1,5 +1,6 @@
 //! A fork: the child has a copy of each file that its parent has open, and must neither write through it nor use its nonces.
 
+#[allow(dead_code)]
 #[path = "sealed/random.rs"]
 mod random;
 #[allow(dead_code)]
@@ -62,8 +63,7 @@ fn file() -> (File<impl RafRng>, Folder, Rc<Cell<usize>>) {
         counted.set(call + 1);
         Ok(())
     });
-    let builder = RafBuilder::<Aegis256>::with_rng(source);
-    let mut file = builder.open_file(folder.file(), &KEY).unwrap();
+    let mut file = RafBuilder::<Aegis256>::with_rng(source).open_file(folder.file(), &KEY).unwrap();
     file.write(b"a change", 5000).unwrap();
     (file, folder, calls)
 }
@@ -224,10 +224,6 @@ fn the_end_of_a_batch_in_a_child() {
 fn a_storage_that_was_opened_before() {
     let folder = Folder::with(b"text");
     let mut io = Some(FileIo::open(folder.file()).unwrap());
-    assert!(is_so_in_a_child(|| {
-        let opened = RafBuilder::<Aegis256>::new().open(io.take().unwrap(), &KEY);
-        is_locked(opened)
-    }));
-    let opened = RafBuilder::<Aegis256>::new().open(io.unwrap(), &KEY);
-    assert_eq!(opened.unwrap().size(), 4);
+    assert!(is_so_in_a_child(|| { is_locked(RafBuilder::<Aegis256>::new().open(io.take().unwrap(), &KEY)) }));
+    assert_eq!(RafBuilder::<Aegis256>::new().open(io.unwrap(), &KEY).unwrap().size(), 4);
 }

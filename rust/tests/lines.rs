@@ -97,8 +97,7 @@ fn open<V: Variant, const TAG_BYTES: usize>(keys: &Keys, ciphertext: &str, tag: 
     let in_place = keys.cipher::<V, TAG_BYTES>();
     let answer = in_place.decrypt_in_place(&mut mc, &tag, &keys.ad);
     assert_eq!(answer, opened.as_ref().map(|_| ()).map_err(|error| *error));
-    let erased = vec![ERASED; joined.len()];
-    assert_eq!(mc, *opened.as_ref().unwrap_or(&erased));
+    assert_eq!(mc, *opened.as_ref().unwrap_or(&vec![ERASED; joined.len()]));
 
     for chunks in cuts(ciphertext) {
         let mut buffer = vec![UNWRITTEN; joined.len() + ROOM];
@@ -110,8 +109,7 @@ fn open<V: Variant, const TAG_BYTES: usize>(keys: &Keys, ciphertext: &str, tag: 
         let in_chunks = decryptor.finalize(&tag).map(|message| message.to_vec());
         assert_eq!(in_chunks, opened);
         assert_eq!(buffer.split_off(joined.len()), [UNWRITTEN; ROOM]);
-        let zeros = vec![0; joined.len()];
-        assert_eq!(buffer, *opened.as_ref().unwrap_or(&zeros));
+        assert_eq!(buffer, *opened.as_ref().unwrap_or(&vec![0; joined.len()]));
     }
     match opened {
         Ok(message) => format!("ok {}", field(&message)),
@@ -125,8 +123,7 @@ fn open<V: Variant, const TAG_BYTES: usize>(keys: &Keys, ciphertext: &str, tag: 
 fn stream<V: Variant, const TAG_BYTES: usize>(keys: &Keys, length: &str) -> String {
     let mut out = vec![UNWRITTEN; length.parse().expect("a length")];
     keys.cipher::<V, TAG_BYTES>().stream(&mut out);
-    let zeros = vec![0; out.len()];
-    assert_eq!(keys.cipher::<V, TAG_BYTES>().stream_xor(&zeros), out);
+    assert_eq!(keys.cipher::<V, TAG_BYTES>().stream_xor(&vec![0; out.len()]), out);
     field(&out)
 }
 

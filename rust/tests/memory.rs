@@ -58,8 +58,7 @@ unsafe impl GlobalAlloc for Counting {
             let bytes = unsafe { slice::from_raw_parts(place, layout.size()) };
             FREED.fetch_add(1, SeqCst);
             let is_mark = |bytes: &[u8]| bytes == [MARK; 8] || bytes == DIGITS;
-            let is_left = bytes.windows(8).any(is_mark);
-            UNWIPED.fetch_add(usize::from(is_left), SeqCst);
+            UNWIPED.fetch_add(usize::from(bytes.windows(8).any(is_mark)), SeqCst);
         }
         // SAFETY: as above.
         unsafe { System.dealloc(place, layout) }
@@ -92,8 +91,7 @@ fn write(path: &Path) {
 fn read(path: &Path) {
     let mut file = Raf::<Aegis256>::open_file(path, &[7; 32]).unwrap();
     let mut buffer = [0; 1000];
-    let places = (0..file.size()).step_by(buffer.len());
-    let counts = places.map(|at| file.read(&mut buffer, at).unwrap());
+    let counts = (0..file.size()).step_by(buffer.len()).map(|at| file.read(&mut buffer, at).unwrap());
     assert!(counts.sum::<usize>() > 3_000_000);
 }
 
@@ -112,8 +110,7 @@ fn seal(path: &Path) {
 /// Reads all of it, and a part of it.
 fn unseal(path: &Path) {
     let mut reader = SealedReader::new(File::open(path).unwrap(), &[7; 32]);
-    let count = std::io::copy(&mut reader, &mut std::io::sink());
-    assert_eq!(count.unwrap(), 1250 * 1100);
+    assert_eq!(std::io::copy(&mut reader, &mut std::io::sink()).unwrap(), 1250 * 1100);
     let mut buffer = [0; 1000];
     reader.seek(SeekFrom::Start(100_000)).unwrap();
     reader.read_exact(&mut buffer).unwrap();
@@ -137,8 +134,7 @@ fn announced(path: &Path, count: usize) {
 
 fn read_announced(path: &Path) {
     let mut reader = SealedReader::new(File::open(path).unwrap(), &[7; 32]);
-    let error = reader.read(&mut [0; 10]).unwrap_err();
-    assert_eq!(error.kind(), ErrorKind::InvalidData);
+    assert_eq!(reader.read(&mut [0; 10]).unwrap_err().kind(), ErrorKind::InvalidData);
 }
 
 /// Reads longer and longer records.
@@ -150,8 +146,7 @@ fn longer_records() {
     sealer.seal_last(&[], &mut file).unwrap();
     let freed = FREED.load(SeqCst);
     let mut reader = SealedReader::new(&file[..], &[7; 32]);
-    let count = std::io::copy(&mut reader, &mut std::io::sink());
-    assert_eq!(count.unwrap(), 701_100);
+    assert_eq!(std::io::copy(&mut reader, &mut std::io::sink()).unwrap(), 701_100);
     drop(reader);
     assert_eq!(FREED.load(SeqCst) - freed, GROWN.len() + 1);
 }
@@ -198,8 +193,7 @@ fn record_of_lies() {
     file.push(0);
     file.extend(200_000_u32.to_le_bytes());
     let mut reader = SealedReader::new(Lies(&file), &[7; 32]);
-    let error = std::io::copy(&mut reader, &mut std::io::sink()).unwrap_err();
-    assert_eq!(error.kind(), ErrorKind::InvalidData);
+    assert_eq!(std::io::copy(&mut reader, &mut std::io::sink()).unwrap_err().kind(), ErrorKind::InvalidData);
 }
 
 /// A sealed file takes a record and what is constant. A record that is announced takes no more than twice what is there of

@@ -1,6 +1,7 @@
 //! Memory that runs out: each allocation of a call fails in turn, alone or with all after it. The call returns an error, and
 //! nothing has changed. One that cannot fail would end this program.
 
+#[allow(dead_code)]
 #[path = "sealed/random.rs"]
 mod random;
 #[allow(dead_code)]
@@ -199,10 +200,7 @@ fn commits_at_long_paths() {
 #[test]
 fn creations() {
     let make = || quiet(&Bytes::default());
-    let create = |disks: &mut Disks| {
-        let created = disks.builder().create(disks.file.clone(), &KEY);
-        Ok(created.map(drop)?)
-    };
+    let create = |disks: &mut Disks| Ok(disks.builder().create(disks.file.clone(), &KEY).map(drop)?);
     let is_kept = |disks: &mut Disks| disks.bytes() == Bytes::default();
     assert!(each_failure(make, create, is_kept) > 0);
     let derive = |_: &mut ()| Ok(derive_key(&KEY, b"context").map(drop)?);
@@ -211,10 +209,7 @@ fn creations() {
 
 #[test]
 fn record_streams() {
-    let make = || {
-        let sealer = Sealer::new(&KEY, &[1; 24], b"context").unwrap();
-        (sealer, b"before".to_vec())
-    };
+    let make = || (Sealer::new(&KEY, &[1; 24], b"context").unwrap(), b"before".to_vec());
     for is_last in [false, true] {
         let seal = |(sealer, stream): &mut (Sealer<'_>, Vec<u8>)| {
             let sealed = match is_last {
@@ -231,10 +226,7 @@ fn record_streams() {
     let make = || Opener::new(&KEY, &[1; 24], b"context", &sealer.header()).unwrap();
     let open = |opener: &mut Opener<'_>| Ok(opener.open_next(&stream).map(drop)?);
     assert_eq!(each_failure(make, open, |opener| !opener.has_ended()), 1);
-    assert_eq!(
-        io::Error::from(records::Error::OutOfMemory).kind(),
-        ErrorKind::OutOfMemory
-    );
+    assert_eq!(io::Error::from(records::Error::OutOfMemory).kind(), ErrorKind::OutOfMemory);
 }
 
 #[test]

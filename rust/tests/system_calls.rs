@@ -1,6 +1,7 @@
 //! The calls of the system that change something, which files at paths make in their creation, in commits and in recoveries. Only
 //! their order shows what a loss of power leaves.
 
+#[allow(dead_code)]
 #[path = "sealed/random.rs"]
 mod random;
 #[allow(dead_code)]
@@ -31,8 +32,7 @@ unsafe extern "C" {
 /// Logs a call. Returns whether it fails.
 fn log(call: &str, path: &Path) -> bool {
     let name = path.file_name().unwrap_or_default().to_string_lossy();
-    let is_folder = name.starts_with("hunkravy-");
-    let shown = format!("{call} {}", if is_folder { "folder" } else { &name });
+    let shown = format!("{call} {}", if name.starts_with("hunkravy-") { "folder" } else { &name });
     CALLS.with_borrow_mut(|calls| calls.push(shown));
     LEFT.set(LEFT.get().wrapping_sub(1));
     let fails = LEFT.get() == usize::MAX;
@@ -51,10 +51,7 @@ trait Named {
 
 impl Named for c_int {
     fn log(self, call: &str) -> bool {
-        log(
-            call,
-            &fs::read_link(format!("/proc/self/fd/{self}")).unwrap(),
-        )
+        log(call, &fs::read_link(format!("/proc/self/fd/{self}")).unwrap())
     }
 }
 
@@ -184,9 +181,7 @@ fn each_call_of_the_system_that_fails() {
         is_error(failed, outcome(result));
     });
     fs::write(folder.file(), &bytes).unwrap();
-    let journal = cut_short(&(bytes.clone(), Vec::new()), b"after!", 0, JOURNAL_CALLS)
-        .bytes()
-        .1;
+    let journal = cut_short(&(bytes.clone(), Vec::new()), b"after!", 0, JOURNAL_CALLS).bytes().1;
     for (journal, text) in [(journal, b"after!"), (Vec::new(), b"before")] {
         let recover = || {
             fs::write(folder.file(), &bytes).unwrap();

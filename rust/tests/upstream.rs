@@ -6,9 +6,7 @@ use hunkravy as aegis;
 macro_rules! programs {
     ($($module:ident $cipher:ident $mac:ident $key_bytes:literal,)*) => {$(
         mod $module {
-            use super::aegis::$module::{
-                $cipher, $mac, Decryptor, Encryptor, Key, Nonce, Tag,
-            };
+            use super::aegis::$module::{$cipher, $mac, Decryptor, Encryptor, Key, Nonce, Tag};
 
             const KEY: Key = [7; $key_bytes];
             const NONCE: Nonce = [9; $key_bytes];
@@ -32,8 +30,7 @@ macro_rules! programs {
                 let tag: Tag<32> = session.encryptor.finalize();
                 session.decryptor.update(&ciphertext[..7])?;
                 session.decryptor.update(&ciphertext[7..])?;
-                let plaintext = session.decryptor.finalize(&tag)?;
-                assert_eq!(plaintext, b"AEGIS is fast");
+                assert_eq!(session.decryptor.finalize(&tag)?, b"AEGIS is fast");
                 Ok(())
             }
 

@@ -31,12 +31,7 @@ pub fn read_key(path: impl AsRef<Path>) -> io::Result<Key> {
     let mut bytes = Wiped(with_room(4096)?);
     let mut file = File::open(path)?.take(MOST_BYTES as u64 + 1);
     file.read_to_end(&mut bytes.0)?;
-    let no_key = || {
-        io::Error::new(
-            ErrorKind::InvalidData,
-            "not a key file: expected 64 hexadecimal digits",
-        )
-    };
+    let no_key = || io::Error::new(ErrorKind::InvalidData, "not a key file: expected 64 hexadecimal digits");
     key_of(&bytes.0).ok_or_else(no_key)
 }
 
@@ -71,8 +66,7 @@ mod tests {
         let key = key_of(digits.as_bytes()).unwrap();
         assert_eq!(key, [0, 0xff, 0x1a, 0xa2].repeat(8)[..]);
         for end in "|\n|\r\n|  |\t\n|\u{b}\u{c}|\u{85}|\u{a0}".split('|') {
-            let found = key_of(format!("{digits}{end}").as_bytes());
-            assert_eq!(found, Some(key), "{end:?}");
+            assert_eq!(key_of(format!("{digits}{end}").as_bytes()), Some(key), "{end:?}");
         }
         for end in ["\n\n\n", "0", "\0", ".", "\n.", "\u{2028}"] {
             assert_eq!(key_of(format!("{digits}{end}").as_bytes()), None, "{end:?}");

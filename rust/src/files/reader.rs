@@ -233,10 +233,7 @@ fn read(inner: &mut impl Read, buf: &mut [u8]) -> io::Result<usize> {
     loop {
         match inner.read(buf) {
             Ok(count) => {
-                assert!(
-                    count <= buf.len(),
-                    "the inner reader returned too large a count"
-                );
+                assert!(count <= buf.len(), "the inner reader returned too large a count");
                 return Ok(count);
             }
             Err(error) if error.kind() == ErrorKind::Interrupted => (),

@@ -66,10 +66,7 @@ impl<R: Read + Seek> SealedReader<R> {
             return Position::default();
         };
         let is_open = self.length > 0 || opener.has_ended();
-        Position {
-            number: opener.position().number - u64::from(is_open),
-            before: self.start,
-        }
+        Position { number: opener.position().number - u64::from(is_open), before: self.start }
     }
 
     /// Opens the record that has a place, or the last one, unless it is open.
@@ -112,8 +109,7 @@ impl<R: Read + Seek> SealedReader<R> {
     /// Returns whether the record that was opened has the place, or is the last one.
     fn is_open_at(&self, place: Option<u64>) -> bool {
         let end = self.start + self.length as u64;
-        self.opener.as_ref().is_some_and(Opener::has_ended)
-            || place.is_some_and(|place| place < end)
+        self.opener.as_ref().is_some_and(Opener::has_ended) || place.is_some_and(|place| place < end)
     }
 
     /// Returns the position of the record that has a place, or of the last one, by the lengths of those before it. Only lengths
@@ -167,8 +163,7 @@ impl<R: Read + Seek> SealedReader<R> {
         };
         let offset = (HEAD_BYTES - HEADER_BYTES) as u64 + position.offset();
         let place = self.base.unwrap_or(0).checked_add(offset);
-        self.inner
-            .seek(SeekFrom::Start(place.ok_or(ErrorKind::InvalidInput)?))?;
+        self.inner.seek(SeekFrom::Start(place.ok_or(ErrorKind::InvalidInput)?))?;
         self.start = position.before;
         self.length = 0;
         self.filled = 0;

@@ -45,13 +45,7 @@ impl<W: Write> SealedWriter<W> {
         head[..prefix.len()].copy_from_slice(&prefix);
         head[prefix.len()..].copy_from_slice(&sealer.header());
         inner.write_all(&head)?;
-        Ok(Self {
-            inner,
-            sealer,
-            record,
-            filled: 0,
-            has_failed: false,
-        })
+        Ok(Self { inner, sealer, record, filled: 0, has_failed: false })
     }
 
     /// Returns the inner writer. Writing to it damages the file.
@@ -80,9 +74,7 @@ impl<W: Write> SealedWriter<W> {
 
     fn check(&self) -> io::Result<()> {
         if self.has_failed {
-            return Err(io::Error::other(
-                "an earlier write of this sealed file failed",
-            ));
+            return Err(io::Error::other("an earlier write of this sealed file failed"));
         }
         Ok(())
     }

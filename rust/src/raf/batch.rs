@@ -7,22 +7,14 @@ use core::fmt;
 /// A file in a batch. [`Raf::batch`] passes it to its closure.
 ///
 /// Its functions are those of [`Raf`] that commit nothing.
-pub struct Batch<
-    'f,
-    A: Algorithm,
-    I: RafIo = FileIo,
-    R: RafRng = DefaultRng,
-    J: RafIo = JournalFile,
-> {
+pub struct Batch<'f, A: Algorithm, I: RafIo = FileIo, R: RafRng = DefaultRng, J: RafIo = JournalFile> {
     file: &'f mut Raf<A, I, R, J>,
     savepoint: Savepoint,
 }
 
 impl<A: Algorithm, I: RafIo, R: RafRng, J: RafIo> fmt::Debug for Batch<'_, A, I, R, J> {
     fn fmt(&self, f: &mut fmt::Formatter<'_>) -> fmt::Result {
-        f.debug_struct("Batch")
-            .field("size", &self.size())
-            .finish_non_exhaustive()
+        f.debug_struct("Batch").field("size", &self.size()).finish_non_exhaustive()
     }
 }
 
@@ -115,10 +107,7 @@ impl<A: Algorithm, I: RafIo, R: RafRng, J: RafIo> Raf<A, I, R, J> {
         changes: impl FnOnce(&mut Batch<'_, A, I, R, J>) -> Result<T, E>,
     ) -> Result<T, E> {
         let savepoint = self.engine.begin_batch()?;
-        let mut batch = Batch {
-            file: self,
-            savepoint,
-        };
+        let mut batch = Batch { file: self, savepoint };
         let made = changes(&mut batch)?;
         batch.file.engine.end_batch(&batch.savepoint)?;
         Ok(made)

@@ -25,9 +25,7 @@ pub struct RafBuilder<A: Algorithm, R: RafRng = DefaultRng, J: JournalChoice = B
 
 impl<A: Algorithm, R: RafRng, J: JournalChoice> fmt::Debug for RafBuilder<A, R, J> {
     fn fmt(&self, f: &mut fmt::Formatter<'_>) -> fmt::Result {
-        f.debug_struct("RafBuilder")
-            .field("chunk_size", &self.chunk_size)
-            .finish_non_exhaustive()
+        f.debug_struct("RafBuilder").field("chunk_size", &self.chunk_size).finish_non_exhaustive()
     }
 }
 
@@ -130,18 +128,12 @@ impl<A: Algorithm, R: RafRng, J: JournalChoice> RafBuilder<A, R, J> {
     ///
     /// Those of [`create`](Self::create). After an error that changes nothing, an old file is as it was. After any error there is
     /// no new file, unless another program has opened it meanwhile, or given it another name.
-    pub fn create_file(
-        mut self,
-        path: impl AsRef<Path>,
-        key: &A::Key,
-    ) -> Result<Raf<A, FileIo, R, J::Journal>> {
+    pub fn create_file(mut self, path: impl AsRef<Path>, key: &A::Key) -> Result<Raf<A, FileIo, R, J::Journal>> {
         let path = path.as_ref();
         let draws = draw::<A>(&mut self.rng, self.chunk_size)?;
         check_no_journal(path)?;
         let io = match FileIo::create_new(path) {
-            Err(Error::Io(error))
-                if self.truncate && error.kind() == io::ErrorKind::AlreadyExists =>
-            {
+            Err(Error::Io(error)) if self.truncate && error.kind() == io::ErrorKind::AlreadyExists => {
                 FileIo::create(path)?
             }
             made => made?,
@@ -154,19 +146,12 @@ impl<A: Algorithm, R: RafRng, J: JournalChoice> RafBuilder<A, R, J> {
     /// # Errors
     ///
     /// Those of [`FileIo::open`] and of [`open`](Self::open).
-    pub fn open_file(
-        self,
-        path: impl AsRef<Path>,
-        key: &A::Key,
-    ) -> Result<Raf<A, FileIo, R, J::Journal>> {
+    pub fn open_file(self, path: impl AsRef<Path>, key: &A::Key) -> Result<Raf<A, FileIo, R, J::Journal>> {
         self.open(FileIo::open(path)?, key)
     }
 
     /// Replaces the source and the journal.
-    fn with<S: RafRng, K: JournalChoice>(
-        self,
-        replace: impl FnOnce(R, J) -> (S, K),
-    ) -> RafBuilder<A, S, K> {
+    fn with<S: RafRng, K: JournalChoice>(self, replace: impl FnOnce(R, J) -> (S, K)) -> RafBuilder<A, S, K> {
         let (rng, journal) = replace(self.rng, self.journal);
         RafBuilder {
             chunk_size: self.chunk_size,
@@ -182,12 +167,7 @@ impl<A: Algorithm, R: RafRng, J: JournalChoice> RafBuilder<A, R, J> {
         self.with(|rng, journal| (rng, journal.of(io)))
     }
 
-    fn begin<I: RafIo>(
-        self,
-        io: I,
-        key: &A::Key,
-        draws: Draws<A>,
-    ) -> Result<Raf<A, I, R, J::Journal>> {
+    fn begin<I: RafIo>(self, io: I, key: &A::Key, draws: Draws<A>) -> Result<Raf<A, I, R, J::Journal>> {
         let builder = self.choose(&io);
         let engine = Engine::create(io, key, builder, draws)?;
         Ok(Raf { engine })

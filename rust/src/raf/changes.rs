@@ -71,8 +71,7 @@ impl Changes {
     /// Returns the numbers below `count` of the pages, the lowest first.
     pub fn numbers(&self, count: u64) -> io::Result<Vec<u64>> {
         let mut numbers = with_room(self.0.iter().map(Layer::len).sum())?;
-        let all = self.0.iter().flat_map(Layer::keys);
-        numbers.extend(all.filter(|number| **number < count));
+        numbers.extend(self.0.iter().flat_map(Layer::keys).filter(|number| **number < count));
         numbers.sort_unstable();
         numbers.dedup();
         Ok(numbers)
@@ -117,8 +116,7 @@ impl Changes {
 
     /// Begins a batch, and returns how many it is in.
     pub fn begin_batch(&mut self) -> io::Result<usize> {
-        let reserved = self.0.try_reserve(1);
-        reserved.map_err(|_| ErrorKind::OutOfMemory)?;
+        self.0.try_reserve(1).map_err(|_| ErrorKind::OutOfMemory)?;
         self.0.push(Layer::default());
         Ok(self.0.len() - 2)
     }
@@ -142,8 +140,7 @@ impl Changes {
 }
 
 fn reserve(layer: &mut Layer, count: usize) -> io::Result<()> {
-    let reserved = layer.try_reserve(count);
-    Ok(reserved.map_err(|_| ErrorKind::OutOfMemory)?)
+    Ok(layer.try_reserve(count).map_err(|_| ErrorKind::OutOfMemory)?)
 }
 
 /// Changed pages that are sealed where they are, for a commit. If it is dropped they are opened again.
@@ -156,17 +153,8 @@ pub struct SealedChanges<'c, A: Algorithm> {
 
 impl<'c, A: Algorithm> SealedChanges<'c, A> {
     /// Seals each page with one of these nonces. `numbers` are those of all changes.
-    pub fn new(
-        layout: &'c Layout<A>,
-        changes: &'c mut Changes,
-        numbers: &'c [u64],
-        nonces: &[A::Nonce],
-    ) -> Self {
-        let mut sealed = SealedChanges {
-            layout,
-            changes,
-            numbers: &[],
-        };
+    pub fn new(layout: &'c Layout<A>, changes: &'c mut Changes, numbers: &'c [u64], nonces: &[A::Nonce]) -> Self {
+        let mut sealed = SealedChanges { layout, changes, numbers: &[] };
         for (at, (number, nonce)) in numbers.iter().zip(nonces).enumerate() {
             if let Some(page) = sealed.changes.get_mut(*number) {
                 layout.seal(*number, nonce, &mut page.0);
@@ -179,10 +167,7 @@ impl<'c, A: Algorithm> SealedChanges<'c, A> {
     /// Returns the writes of the pages, the lowest first.
     pub fn writes(&self) -> impl Iterator<Item = PendingWrite<'_>> {
         self.numbers.iter().filter_map(|number| {
-            Some(PendingWrite {
-                place: self.layout.page_place(*number),
-                bytes: &self.changes.get(*number)?.0,
-            })
+            Some(PendingWrite { place: self.layout.page_place(*number), bytes: &self.changes.get(*number)?.0 })
         })
     }
 

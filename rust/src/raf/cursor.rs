@@ -13,9 +13,7 @@ pub struct RafCursor<'a, A: Algorithm, I: RafIo, R: RafRng, J: RafIo> {
 
 impl<A: Algorithm, I: RafIo, R: RafRng, J: RafIo> fmt::Debug for RafCursor<'_, A, I, R, J> {
     fn fmt(&self, f: &mut fmt::Formatter<'_>) -> fmt::Result {
-        f.debug_struct("RafCursor")
-            .field("offset", &self.offset)
-            .finish_non_exhaustive()
+        f.debug_struct("RafCursor").field("offset", &self.offset).finish_non_exhaustive()
     }
 }
 

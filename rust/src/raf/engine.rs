@@ -64,12 +64,7 @@ pub fn draw<A: Algorithm>(rng: &mut impl RafRng, chunk_size: u32) -> Result<Draw
 }
 
 impl<A: Algorithm, I: RafIo, R: RafRng, J: RafIo> Engine<A, I, R, J> {
-    pub fn create(
-        mut io: I,
-        key: &A::Key,
-        mut builder: RafBuilder<A, R, J>,
-        (id, nonce): Draws<A>,
-    ) -> Result<Self> {
+    pub fn create(mut io: I, key: &A::Key, mut builder: RafBuilder<A, R, J>, (id, nonce): Draws<A>) -> Result<Self> {
         io.lock()?;
         builder.journal.lock()?;
         if builder.journal.get_size()? != 0 {
@@ -79,11 +74,7 @@ impl<A: Algorithm, I: RafIo, R: RafRng, J: RafIo> Engine<A, I, R, J> {
         if !is_empty && !builder.truncate {
             return Err(Error::Io(ErrorKind::AlreadyExists.into()));
         }
-        let header = PageHeader {
-            page_size: builder.chunk_size,
-            id,
-            ..PageHeader::default()
-        };
+        let header = PageHeader { page_size: builder.chunk_size, id, ..PageHeader::default() };
         let mut file = Self::over(io, key, builder, &header)?;
         // Also if it is empty: after a sync that failed the disk may have its old bytes.
         file.journal.set_size(0)?;
@@ -109,12 +100,7 @@ impl<A: Algorithm, I: RafIo, R: RafRng, J: RafIo> Engine<A, I, R, J> {
     }
 
     /// The open file that has this header.
-    fn over(
-        io: I,
-        key: &A::Key,
-        builder: RafBuilder<A, R, J>,
-        header: &PageHeader,
-    ) -> Result<Self> {
+    fn over(io: I, key: &A::Key, builder: RafBuilder<A, R, J>, header: &PageHeader) -> Result<Self> {
         let layout = Layout::of(key, header);
         Ok(Engine {
             io,
@@ -163,8 +149,7 @@ impl<A: Algorithm, I: RafIo, R: RafRng, J: RafIo> Engine<A, I, R, J> {
         let (mut number, mut at) = (offset / chunk_size, (offset % chunk_size) as usize);
         let mut rest = &mut buf[..count];
         while !rest.is_empty() {
-            let most = self.layout.page_count((at + rest.len()) as u64);
-            let shown = self.show_pages(number, most)?;
+            let shown = self.show_pages(number, self.layout.page_count((at + rest.len()) as u64))?;
             number += shown.len() as u64;
             let pages = self.pages.chunks_exact_mut(self.layout.page_bytes());
             for page in pages.take(shown.end).skip(shown.start) {
@@ -191,10 +176,7 @@ impl<A: Algorithm, I: RafIo, R: RafRng, J: RafIo> Engine<A, I, R, J> {
     /// Makes the change of a write, in memory.
     fn change(&mut self, data: &[u8], offset: u64) -> Result<()> {
         self.check()?;
-        let end = offset
-            .checked_add(data.len() as u64)
-            .filter(|end| *end <= MAX_SIZE)
-            .ok_or(Error::TooLong)?;
+        let end = offset.checked_add(data.len() as u64).filter(|end| *end <= MAX_SIZE).ok_or(Error::TooLong)?;
         if data.is_empty() && offset <= self.size {
             return Ok(());
         }
@@ -254,8 +236,7 @@ impl<A: Algorithm, I: RafIo, R: RafRng, J: RafIo> Engine<A, I, R, J> {
         if !self.owner.is_this() {
             return Err(Error::Locked);
         }
-        let count = self.layout.page_count(self.size);
-        let numbers = self.changes.numbers(count)?;
+        let numbers = self.changes.numbers(self.layout.page_count(self.size))?;
         if numbers.is_empty() && self.size == self.stored {
             return Ok(());
         }
@@ -338,11 +319,7 @@ impl<A: Algorithm, I: RafIo, R: RafRng, J: RafIo> Engine<A, I, R, J> {
     /// Begins a batch, and returns the state before it.
     pub fn begin_batch(&mut self) -> Result<Savepoint> {
         self.check()?;
-        Ok(Savepoint {
-            depth: self.changes.begin_batch()?,
-            size: self.size,
-            failure: self.failure.take(),
-        })
+        Ok(Savepoint { depth: self.changes.begin_batch()?, size: self.size, failure: self.failure.take() })
     }
 
     /// Commits the changes of a batch, or leaves them to the outer one. After an error it is to be undone.
@@ -449,8 +426,7 @@ impl<A: Algorithm, I: RafIo, R: RafRng, J: RafIo> Engine<A, I, R, J> {
         mac.update(&self.stored.to_le_bytes());
         for number in 0..self.layout.page_count(self.stored) {
             let mut tag = [0; TAG_BYTES];
-            let end = self.layout.page_place(number + 1);
-            self.io.read_at(&mut tag, end - TAG_BYTES as u64)?;
+            self.io.read_at(&mut tag, self.layout.page_place(number + 1) - TAG_BYTES as u64)?;
             mac.update(&tag);
         }
         Ok(mac)
@@ -478,14 +454,10 @@ mod tests {
 
     /// Opens a file that has its header alone: after so many commits, and with contents of this length.
     fn file(Paths(path, _): &Paths, counter: u64, size: u64) -> File {
-        let header = PageHeader {
-            page_size: 256,
-            ..PageHeader::default()
-        };
+        let header = PageHeader { page_size: 256, ..PageHeader::default() };
         let layout = Layout::<Aegis256>::of(&[7; 32], &header);
         std::fs::write(path, layout.header(counter, size, &[1; 32])).unwrap();
-        let builder = RafBuilder::new().journal(NoJournal);
-        builder.open_file(path, &[7; 32]).unwrap()
+        RafBuilder::new().journal(NoJournal).open_file(path, &[7; 32]).unwrap()
     }
 
     /// The counter of commits does not begin again.

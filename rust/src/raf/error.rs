@@ -59,15 +59,11 @@ impl fmt::Display for Error {
         let text = match self {
             Error::Io(error) => return error.fmt(f),
             Error::Damaged(page) => return write!(f, "page {page} is damaged"),
-            Error::Header => {
-                "cannot open the header: wrong key or algorithm, damaged file, or not a raf file"
-            }
+            Error::Header => "cannot open the header: wrong key or algorithm, damaged file, or not a raf file",
             Error::Journal => "the journal does not belong to this file",
             Error::TooLong => "the contents are too long, or no more commits are possible",
             Error::ChunkSize => "the chunk size must be 256 to 65,536 bytes",
-            Error::ContextTooLong => {
-                "the context is longer than 120 bytes (16-byte key) or 72 (32-byte key)"
-            }
+            Error::ContextTooLong => "the context is longer than 120 bytes (16-byte key) or 72 (32-byte key)",
             Error::Commitment => "the commitment is not the expected one",
             Error::Locked => "the file is already open, here or in another process",
             Error::Moved => "the file was renamed, removed or replaced, or has several hard links",

@@ -205,8 +205,7 @@ impl FileIo {
 
     fn with(options: &mut OpenOptions, path: &Path) -> Result<Self> {
         check_memory()?;
-        let file = options.read(true).write(true).open(path)?;
-        Ok(Self::of(file, Some(resolved(path)?)))
+        Ok(Self::of(options.read(true).write(true).open(path)?, Some(resolved(path)?)))
     }
 
     /// Returns whether this process has opened it.
@@ -396,11 +395,7 @@ impl JournalFile {
     }
 
     fn at(path: Option<PathBuf>) -> Self {
-        JournalFile {
-            path,
-            file: None,
-            is_name_synced: false,
-        }
+        JournalFile { path, file: None, is_name_synced: false }
     }
 
     /// Opens the file, or returns `None` if there is none and none is to be made.
@@ -430,11 +425,7 @@ fn options() -> OpenOptions {
 /// Opens the file that was found at a path.
 fn open_same(path: &Path, found: &Metadata) -> io::Result<File> {
     let file = options().open(path)?;
-    if is_same(&file.metadata()?, found) {
-        Ok(file)
-    } else {
-        Err(no_journal())
-    }
+    if is_same(&file.metadata()?, found) { Ok(file) } else { Err(no_journal()) }
 }
 
 /// Returns what is at the path of a journal, if it has any bytes. An error if it is not a file, or has other names too,
@@ -526,11 +517,7 @@ fn new_journal(path: &Path) -> io::Result<File> {
 
 /// The mode of the journal of a file of this mode. A journal in another group gives its group the rights of all others.
 fn mode_beside(of: u32, is_of_its_group: bool) -> u32 {
-    let group = if is_of_its_group {
-        of & GROUP
-    } else {
-        others(of) << 3
-    };
+    let group = if is_of_its_group { of & GROUP } else { others(of) << 3 };
     OWNER | group | others(of)
 }
 
@@ -728,8 +715,7 @@ pub mod tests {
 
     impl Paths {
         pub fn new(name: &str) -> Self {
-            let name = format!("hunkravy-{name}-{}", std::process::id());
-            let path = std::env::temp_dir().join(name);
+            let path = std::env::temp_dir().join(format!("hunkravy-{name}-{}", std::process::id()));
             let journal = with_journal(&path);
             Paths(path, journal)
         }
@@ -751,21 +737,6 @@ pub mod tests {
         io.lock().unwrap();
         drop(io);
         assert_eq!(fs::read(path).unwrap(), b"precious");
-    }
-
-    /// A process keeps its lock when a copy of it in another process is dropped.
-    #[test]
-    fn locks_of_another_process() {
-        let Paths(path, _) = &Paths::new("locks");
-        let mut io = FileIo::create(path).unwrap();
-        io.lock().unwrap();
-        let in_this_one = io.file.try_clone().unwrap();
-        io.owner = None;
-        drop(io);
-        let mut other = FileIo::open(path).unwrap();
-        assert!(other.lock().is_err());
-        drop(in_this_one);
-        assert!(other.lock().is_ok());
     }
 
     /// A new journal is for its owner alone until it has the mode of its file. It takes no other file and follows no link. Opening

@@ -81,8 +81,7 @@ impl<I: RafIo, J: RafIo> Work<'_, I, J> {
     /// Writes the journal after its beginning.
     fn write_rest(&mut self) -> io::Result<()> {
         let mut place = BEGINNING_BYTES as u64;
-        let rest = &self.bytes[BEGINNING_BYTES..];
-        pass_content(self.state, rest, self.writes, |bytes| {
+        pass_content(self.state, &self.bytes[BEGINNING_BYTES..], self.writes, |bytes| {
             self.neighbours.write(self.journal, place, bytes)?;
             place += bytes.len() as u64;
             Ok(())
@@ -108,8 +107,7 @@ fn pass_content(
     pass(rest)?;
     for write in writes {
         let mut head = [0; HEAD_BYTES];
-        let answer = journal_entry(state, write.place, write.bytes, &mut head);
-        answer.map_err(too_long)?;
+        journal_entry(state, write.place, write.bytes, &mut head).map_err(too_long)?;
         pass(&head)?;
         pass(write.bytes)?;
     }
@@ -168,15 +166,10 @@ impl Neighbours {
 ///
 /// [`Refusal::WRONG_JOURNAL`]: the journal is that of another file, or of another state of this one. Any other error: the file has no
 /// header of this algorithm and key, and the journal is not whole.
-pub fn checked_writes<'j, A: Algorithm>(
-    file: &[u8],
-    key: &A::Key,
-    journal: &'j [u8],
-) -> Result<&'j [u8], Refusal> {
+pub fn checked_writes<'j, A: Algorithm>(file: &[u8], key: &A::Key, journal: &'j [u8]) -> Result<&'j [u8], Refusal> {
     let mut length = 0;
     journal_check(A::NUMBER, file, key.as_ref(), journal, &mut length)?;
-    let writes = journal.get(START_BYTES..).unwrap_or(&[]);
-    Ok(&writes[..length])
+    Ok(&journal.get(START_BYTES..).unwrap_or(&[])[..length])
 }
 
 /// The writes in the part of a journal that has them.
@@ -188,43 +181,4 @@ pub fn journaled_writes(mut part: &[u8]) -> impl Iterator<Item = PendingWrite<'_
         part = rest;
         Some(PendingWrite { place, bytes })
     })
-}
-
-#[cfg(test)]
-mod tests {
-    use super::{PendingWrite, checked_writes, journaled_writes, pass_content};
-    use crate::raf::Aegis256;
-    use crate::raf::layout::{HEADER_BLOCK_BYTES, Layout, PageHeader};
-
-    /// A journal has only writes within the longest file.
-    #[test]
-    fn writes_within_the_longest_file() {
-        let header = PageHeader {
-            page_size: 4032,
-            ..PageHeader::default()
-        };
-        let begun = || Layout::<Aegis256>::of(&[3; 32], &header).journal(&[2; 16]);
-        for (place, is_within) in [
-            (0, true),
-            ((1 << 63) - 4, true),
-            ((1 << 63) - 3, false),
-            (u64::MAX, false),
-        ] {
-            let (bytes, mut begun) = (&[4; 3], begun());
-            let mut journal = begun.start[..512].to_vec();
-            let (rest, writes) = (&begun.start[512..], &[PendingWrite { place, bytes }]);
-            let passed = pass_content(&mut begun.state, rest, writes, |bytes| {
-                journal.extend_from_slice(bytes);
-                Ok(())
-            });
-            assert_eq!(passed.is_ok(), is_within);
-            if is_within {
-                // The file has no header, so any whole journal is accepted.
-                let file = [0; HEADER_BLOCK_BYTES];
-                let part = checked_writes::<Aegis256>(&file, &[3; 32], &journal).unwrap();
-                let writes = journaled_writes(part).map(|write| (write.place, write.bytes));
-                assert!(writes.eq([(place, &bytes[..])]));
-            }
-        }
-    }
 }

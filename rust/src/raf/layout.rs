@@ -44,11 +44,7 @@ pub struct Layout<A: Algorithm> {
 impl<A: Algorithm> Layout<A> {
     /// The layout that a header names.
     pub fn of(key: &A::Key, header: &PageHeader) -> Self {
-        Layout {
-            key: Wiped(*key),
-            chunk_size: header.page_size,
-            id: header.id,
-        }
+        Layout { key: Wiped(*key), chunk_size: header.page_size, id: header.id }
     }
 
     /// The length of a page.
@@ -85,8 +81,7 @@ impl<A: Algorithm> Layout<A> {
 
     /// Opens the page of this number. If it was not sealed under it, each byte is erased.
     pub fn open(&self, number: u64, page: &mut [u8]) -> bool {
-        let answer = exports::page_open(A::NUMBER, page, &self.id, number, self.key.0.as_ref());
-        answer.is_ok()
+        exports::page_open(A::NUMBER, page, &self.id, number, self.key.0.as_ref()).is_ok()
     }
 
     /// Returns the block of the header of this counter, for contents of `size` bytes.
@@ -94,26 +89,14 @@ impl<A: Algorithm> Layout<A> {
         let mut block = [0; HEADER_BLOCK_BYTES];
         let (nonce, key) = (nonce.as_ref(), self.key.0.as_ref());
         let (page_size, id) = (self.chunk_size, &self.id);
-        let answer = exports::page_header_seal(
-            A::NUMBER,
-            &mut block,
-            page_size,
-            id,
-            counter,
-            size,
-            nonce,
-            key,
-        );
+        let answer = exports::page_header_seal(A::NUMBER, &mut block, page_size, id, counter, size, nonce, key);
         assert_eq!(answer, Ok(()), "the chunk size and the lengths are right");
         block
     }
 
     /// Begins the journal of a commit. A nonce is for one journal only.
     pub fn journal(&self, nonce: &[u8; NONCE_BYTES]) -> JournalSeal {
-        let mut seal = JournalSeal {
-            state: State::ENDED,
-            start: [0; START_BYTES],
-        };
+        let mut seal = JournalSeal { state: State::ENDED, start: [0; START_BYTES] };
         let (st, start) = (&mut seal.state, &mut seal.start);
         let (size, id, key) = (self.chunk_size, &self.id, self.key.0.as_ref());
         let answer = exports::journal_init(A::NUMBER, st, size, id, nonce, key, start);
@@ -138,10 +121,7 @@ pub fn is_chunk_size(bytes: u32) -> bool {
 }
 
 /// Returns the header in a sector, if it is one of this algorithm and the key.
-pub fn open_header<A: Algorithm>(
-    key: &A::Key,
-    header_block: &[u8; HEADER_BLOCK_BYTES],
-) -> Option<PageHeader> {
+pub fn open_header<A: Algorithm>(key: &A::Key, header_block: &[u8; HEADER_BLOCK_BYTES]) -> Option<PageHeader> {
     let mut header = PageHeader::default();
     let opened = exports::page_header_open(
         A::NUMBER,

@@ -62,11 +62,9 @@ pub fn probe(io: &mut impl RafIo) -> Result<RafInfo> {
     let [_, _, _, _, byte, size @ ..] = plaintext;
     let chunk_size = u32::from_le_bytes([size[0], size[1], size[2], size[3]]);
     match AlgorithmId::of_byte(byte) {
-        Some(algorithm) if plaintext[..4] == MAGIC && is_chunk_size(chunk_size) => Ok(RafInfo {
-            algorithm,
-            chunk_size,
-            file_size,
-        }),
+        Some(algorithm) if plaintext[..4] == MAGIC && is_chunk_size(chunk_size) => {
+            Ok(RafInfo { algorithm, chunk_size, file_size })
+        }
         _ => Err(Error::Header),
     }
 }

@@ -31,33 +31,22 @@ impl FileStart {
 
     /// Returns whether a journal begins as those of this file do. If the file has no header, those of any file will do.
     fn is_of<A: Algorithm>(&self, key: &A::Key, found: &[u8]) -> bool {
-        let any = PageHeader {
-            page_size: default_chunk_size::<A>(),
-            ..PageHeader::default()
-        };
+        let any = PageHeader { page_size: default_chunk_size::<A>(), ..PageHeader::default() };
         let known = match self.header {
             Some(_) => BEGINNING_BYTES,
             None => COMMON_BYTES,
         };
-        let layout = Layout::<A>::of(key, self.header.as_ref().unwrap_or(&any));
-        let own = layout.journal(&[0; NONCE_BYTES]);
+        let own = Layout::<A>::of(key, self.header.as_ref().unwrap_or(&any)).journal(&[0; NONCE_BYTES]);
         found.starts_with(&own.start[..known])
     }
 
     /// Reads the journal.
-    fn read_journal<A: Algorithm>(
-        &self,
-        journal: &mut impl RafIo,
-        key: &A::Key,
-    ) -> Result<Vec<u8>> {
+    fn read_journal<A: Algorithm>(&self, journal: &mut impl RafIo, key: &A::Key) -> Result<Vec<u8>> {
         if journal.get_size()? > MOST_FOREIGN_BYTES {
             let mut first = [0; BEGINNING_BYTES];
             journal.read_at(&mut first, 0)?;
             if !self.is_of::<A>(key, &first) {
-                return Err(self
-                    .header
-                    .as_ref()
-                    .map_or(Error::Header, |_| Error::Journal));
+                return Err(self.header.as_ref().map_or(Error::Header, |_| Error::Journal));
             }
         }
         let size = usize::try_from(journal.get_size()?);
@@ -77,11 +66,7 @@ impl FileStart {
 ///   first or the last one of the commit, byte for byte.
 /// - A torn journal is emptied if the file has a header and the journal begins as those of this file do, or has at most 512 bytes.
 /// - Otherwise nothing is changed, and the error is [`Error::Journal`] or [`Error::Header`].
-pub fn recover<A: Algorithm>(
-    io: &mut impl RafIo,
-    journal: &mut impl RafIo,
-    key: &A::Key,
-) -> Result<PageHeader> {
+pub fn recover<A: Algorithm>(io: &mut impl RafIo, journal: &mut impl RafIo, key: &A::Key) -> Result<PageHeader> {
     if journal.get_size()? > 0 {
         io.forget()?;
         journal.forget()?;
@@ -111,8 +96,7 @@ pub fn recover<A: Algorithm>(
         // What has its name by now was not read.
         return Err(Error::Journal);
     }
-    let header = FileStart::read::<A>(io, key)?.header;
-    header.ok_or(Error::Io(io::ErrorKind::InvalidData.into()))
+    FileStart::read::<A>(io, key)?.header.ok_or(Error::Io(io::ErrorKind::InvalidData.into()))
 }
 
 /// Reads the header block, or returns `None` if there are fewer bytes.

@@ -100,10 +100,7 @@ impl Process {
             }
             IS_COUNTED.store(true, SeqCst);
         }
-        Ok(Process {
-            id: process::id(),
-            forks: FORKS.load(SeqCst),
-        })
+        Ok(Process { id: process::id(), forks: FORKS.load(SeqCst) })
     }
 
     /// Returns whether it is this one. The system is not asked, so a process that was made without `fork` of the C library counts

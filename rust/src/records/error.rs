@@ -39,10 +39,7 @@ impl fmt::Display for Error {
             Error::Flag => "the first byte of a record is neither 0 nor 1",
             Error::TooLong => "a message is longer than 16 MiB",
             Error::Damaged(number) => {
-                return write!(
-                    f,
-                    "record {number} is damaged, or the key, prefix or context is wrong"
-                );
+                return write!(f, "record {number} is damaged, or the key, prefix or context is wrong");
             }
             Error::Trailing => "bytes follow the last record",
             Error::StreamTooLong => "the stream is longer than 2^61 - 1 bytes",

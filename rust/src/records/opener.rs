@@ -52,16 +52,10 @@ impl<'c> Opener<'c> {
     /// # Errors
     ///
     /// [`Error::ContextTooLong`] or [`Error::Header`].
-    pub fn new(
-        key: &Key,
-        prefix: &Prefix,
-        context: &'c [u8],
-        header: &[u8],
-    ) -> Result<Self, Error> {
+    pub fn new(key: &Key, prefix: &Prefix, context: &'c [u8], header: &[u8]) -> Result<Self, Error> {
         let known = <&[u8; HEADER_BYTES]>::try_from(header).unwrap_or(&[0; HEADER_BYTES]);
         let mut opener = Self::of(Position::default());
-        let begun = record_begin_open(&mut opener.records, key, prefix, context, known);
-        begun.map_err(of_begin)?;
+        record_begin_open(&mut opener.records, key, prefix, context, known).map_err(of_begin)?;
         Ok(opener)
     }
 
@@ -88,25 +82,15 @@ impl<'c> Opener<'c> {
     /// assert_eq!(opened.message, b"last");
     /// # Ok::<(), Error>(())
     /// ```
-    pub fn begin_at(
-        key: &Key,
-        prefix: &Prefix,
-        context: &'c [u8],
-        position: Position,
-    ) -> Result<Self, Error> {
+    pub fn begin_at(key: &Key, prefix: &Prefix, context: &'c [u8], position: Position) -> Result<Self, Error> {
         let mut opener = Self::of(position);
         let (st, Position { number, before }) = (&mut opener.records, position);
-        let begun = record_begin_open_at(st, key, prefix, context, number, before);
-        begun.map_err(of_begin)?;
+        record_begin_open_at(st, key, prefix, context, number, before).map_err(of_begin)?;
         Ok(opener)
     }
 
     fn of(next: Position) -> Self {
-        Self {
-            records: Records::ENDED,
-            next,
-            end: None,
-        }
+        Self { records: Records::ENDED, next, end: None }
     }
 
     /// Returns the position of the next record, for [`begin_at`](Self::begin_at).
@@ -150,17 +134,12 @@ impl<'c> Opener<'c> {
         let length = self.first_len(bytes)?;
         let (record, rest) = bytes.split_at(length);
         let mut message = Vec::new();
-        let reserved = message.try_reserve_exact(length);
-        reserved.map_err(|_| Error::OutOfMemory)?;
+        message.try_reserve_exact(length).map_err(|_| Error::OutOfMemory)?;
         message.extend_from_slice(record);
         let is_last = self.open(&mut message)?;
         message.copy_within(RECORD_HEAD_BYTES.., 0);
         message.truncate(length - RECORD_BYTES);
-        Ok(Opened {
-            message,
-            is_last,
-            rest,
-        })
+        Ok(Opened { message, is_last, rest })
     }
 
     /// Opens the next record in place. The arguments are those of [`open_next`](Self::open_next).
@@ -169,18 +148,11 @@ impl<'c> Opener<'c> {
     ///
     /// Those of [`open_next`](Self::open_next). After [`Error::Damaged`] each byte of the record is
     /// [`ERASED`](crate::ERASED). After any other error `bytes` is unchanged.
-    pub fn open_next_in_place<'b>(
-        &mut self,
-        bytes: &'b mut [u8],
-    ) -> Result<OpenedInPlace<'b>, Error> {
+    pub fn open_next_in_place<'b>(&mut self, bytes: &'b mut [u8]) -> Result<OpenedInPlace<'b>, Error> {
         let length = self.first_len(bytes)?;
         let (record, rest) = bytes.split_at_mut(length);
         let is_last = self.open(record)?;
-        Ok(OpenedInPlace {
-            message: &mut record[RECORD_HEAD_BYTES..][..length - RECORD_BYTES],
-            is_last,
-            rest,
-        })
+        Ok(OpenedInPlace { message: &mut record[RECORD_HEAD_BYTES..][..length - RECORD_BYTES], is_last, rest })
     }
 
     /// Checks that the whole stream was opened. `rest` has the bytes after the records that were opened.

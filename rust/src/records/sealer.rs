@@ -26,8 +26,7 @@ impl<'c> Sealer<'c> {
     /// [`Error::ContextTooLong`].
     pub fn new(key: &Key, prefix: &Prefix, context: &'c [u8]) -> Result<Self, Error> {
         let (mut records, mut header) = (Records::ENDED, [0; HEADER_BYTES]);
-        let begun = record_begin(&mut records, key, prefix, context, &mut header);
-        begun.map_err(of_begin)?;
+        record_begin(&mut records, key, prefix, context, &mut header).map_err(of_begin)?;
         Ok(Self { records, header })
     }
 
@@ -102,8 +101,7 @@ impl<'c> Sealer<'c> {
         }
         let start = stream.len();
         let end = start + message.len() + RECORD_BYTES;
-        let reserved = stream.try_reserve(end - start);
-        reserved.map_err(|_| Error::OutOfMemory)?;
+        stream.try_reserve(end - start).map_err(|_| Error::OutOfMemory)?;
         stream.resize(start + RECORD_HEAD_BYTES, 0);
         stream.extend_from_slice(message);
         stream.resize(end, 0);
@@ -147,10 +145,7 @@ mod tests {
         sealer.records.opaque[2] = MAX_AEAD_BYTES - 4 - 37 - 10;
         let mut stream = vec![3; 5];
         let sealed = sealer.seal_next(&[9; 11], &mut stream);
-        assert_eq!(
-            (sealed, &stream[..]),
-            (Err(Error::StreamTooLong), &[3; 5][..])
-        );
+        assert_eq!((sealed, &stream[..]), (Err(Error::StreamTooLong), &[3; 5][..]));
         // The message does not stay behind the end of the vector.
         for byte in &mut stream.spare_capacity_mut()[..37 + 11] {
             // SAFETY: the record was written there.

@@ -214,18 +214,11 @@ impl<A: Algorithm, I: RafIo, R: RafRng, J: RafIo> Engine<A, I, R, J> {
         // SAFETY: the key has this many bytes, and the parts live as long as the file.
         let code = unsafe {
             match is_new {
-                true => {
-                    hunkravy_file_create_in(&mut file, &storage, number, k, klen, of.chunk_size)
-                }
+                true => hunkravy_file_create_in(&mut file, &storage, number, k, klen, of.chunk_size),
                 false => hunkravy_file_open_in(&mut file, &storage, number, k, klen),
             }
         };
-        let mut engine = Engine {
-            file,
-            parts,
-            depth: 0,
-            algorithm: PhantomData,
-        };
+        let mut engine = Engine { file, parts, depth: 0, algorithm: PhantomData };
         engine.result(code)?;
         hunkravy_file_set_limit(engine.raw(), of.buffer_limit as u64);
         Ok(engine)

@@ -4,37 +4,20 @@ use crate::support::*;
 use hunkravy::raf::*;
 use std::cell::{Cell, RefCell};
 use std::error::Error as _;
-use std::io;
+use std::io::{self, Write};
 use std::panic::{AssertUnwindSafe, catch_unwind};
 use std::time::Instant;
 
 type Change = fn(&mut File) -> Result<()>;
 
-/// A drop commits, but not after a change that has failed, as others may belong to it, until a commit or a discard. Nor does it
-/// while its thread panics.
+/// A drop commits, but not after a change that has failed, as others may belong to it. Nor does it while its thread panics.
 #[test]
 fn drops() {
-    let cases: [(Change, usize); 6] = [
+    let cases: [(Change, usize); 4] = [
         (|_| Ok(()), 4),
         (|file| file.write(b"too far", MAX_SIZE).map(drop), 0),
         (|file| file.truncate(MAX_SIZE + 1), 0),
         (|_| panic!("in the middle of a change"), 0),
-        (
-            |file| {
-                assert!(file.truncate(MAX_SIZE + 1).is_err());
-                file.discard();
-                file.write(b"ab", 0).map(drop)
-            },
-            2,
-        ),
-        (
-            |file| {
-                assert!(file.write(b"too far", MAX_SIZE).is_err());
-                file.commit()?;
-                file.write(b"more", 4).map(drop)
-            },
-            8,
-        ),
     ];
     for (number, (change, size)) in cases.into_iter().enumerate() {
         let disks = Disks::new();
@@ -45,6 +28,46 @@ fn drops() {
         }));
         assert_eq!(made.is_ok_and(|made| made.is_ok()), size > 0, "{number}");
         assert_eq!(disks.text().len(), size, "{number}");
+    }
+}
+
+/// A call that fails in a commit breaks the file. If it was to make the file longer, the changes are still in memory.
+#[test]
+fn each_call_that_fails() {
+    let begun = Disks::with(&[1; 1100]).bytes();
+    for left in 0.. {
+        let disks = Disks::of(begun.clone());
+        let mut file = disks.open().unwrap();
+        file.truncate(300).unwrap();
+        file.write(&[2; 2200], 300).unwrap();
+        disks.leave(left);
+        if file.commit().is_ok() {
+            return assert_eq!(left, 11);
+        }
+        disks.leave(usize::MAX);
+        match disks.log().calls.last() {
+            Some((Part::File, Call::Resize(_))) => assert_eq!(file.size(), 2500),
+            _ => check_is_broken(&mut file),
+        }
+        let calls = disks.calls();
+        drop(file);
+        assert_eq!(disks.calls(), calls);
+        assert!([1100, 2500].contains(&disks.text().len()));
+    }
+}
+
+fn check_is_broken(file: &mut File) {
+    assert_eq!(outcome(read(file)), "Broken");
+    assert!(file.cursor().write(b"").is_err());
+    for result in [
+        file.write(b"no", 0).map(drop),
+        file.truncate(0),
+        file.truncate(5000),
+        file.commit(),
+        file.sync(),
+        file.commitment().map(drop),
+    ] {
+        assert_eq!(outcome(result), "Broken");
     }
 }
 
@@ -68,10 +91,7 @@ fn a_drop_after_a_panic_in_a_change_commits_nothing() {
         assert!(at != At::Read || !panics.get(), "a read that panics");
         Ok(())
     };
-    let opened = disks
-        .builder()
-        .open(Before(disks.file.clone(), reads), &KEY);
-    let mut file = opened.unwrap();
+    let mut file = disks.builder().open(Before(disks.file.clone(), reads), &KEY).unwrap();
     file.write(b"the first of two", 0).unwrap();
     panics.set(true);
     let second = AssertUnwindSafe(|| file.write(b"the second", 300));
@@ -101,8 +121,7 @@ fn nothing_changed_is_no_commit() {
 #[test]
 fn the_limit_on_changes() {
     let disks = Disks::new();
-    let builder = disks.builder().buffer_limit(4 * 256);
-    let mut file = builder.create(disks.file.clone(), &KEY).unwrap();
+    let mut file = disks.builder().buffer_limit(4 * 256).create(disks.file.clone(), &KEY).unwrap();
     let mut is_commit = |change: Change| {
         let before = disks.calls();
         change(&mut file).unwrap();
@@ -119,8 +138,7 @@ fn the_limit_on_changes() {
 #[test]
 fn the_default_limit() {
     let disks = Disks::new();
-    let builder = RafBuilder::<Aegis128X2>::new().chunk_size(65_536);
-    let mut file = builder.create(disks.file.clone(), &[7; 16]).unwrap();
+    let mut file = RafBuilder::<Aegis128X2>::new().chunk_size(65_536).create(disks.file.clone(), &[7; 16]).unwrap();
     let count = disks.calls();
     file.write(&vec![1; 16 << 20], 0).unwrap();
     assert_eq!(disks.calls(), count);
@@ -188,8 +206,7 @@ fn the_calls_of_a_recovery() {
     };
     let journal = Before(disks.journal.clone(), sees(Part::Journal));
     let length = disks.bytes().1.len();
-    let builder = disks.builder().journal(journal);
-    let opened = builder.open(Before(disks.file.clone(), sees(Part::File)), &KEY);
+    let opened = disks.builder().journal(journal).open(Before(disks.file.clone(), sees(Part::File)), &KEY);
     assert_eq!(text_of(&mut opened.unwrap()), [1; 600]);
     let expected = format!(
         "File sync, Journal replace {length}, File write 0, File write 4096, File write 0, File sync, \
@@ -211,8 +228,7 @@ fn locks_that_are_refused() {
         Before(disk.clone(), refuse)
     }
     // All is written but the end of the file.
-    let empty = Disks::with(b"").bytes();
-    let disks = cut_short(&empty, &[1; 600], 0, 1 + JOURNAL_CALLS + 2);
+    let disks = cut_short(&Disks::with(b"").bytes(), &[1; 600], 0, 1 + JOURNAL_CALLS + 2);
     disks.log().calls.clear();
     let builder = || disks.builder().truncate(true);
     let beside = || builder().journal(locked(&disks.journal));
@@ -222,10 +238,7 @@ fn locks_that_are_refused() {
         outcome(beside().open(disks.file.clone(), &KEY)),
         outcome(beside().create(disks.file.clone(), &KEY)),
     ];
-    assert_eq!(
-        (refused, disks.calls()),
-        (["Locked"; 4].map(String::from), 0)
-    );
+    assert_eq!((refused, disks.calls()), (["Locked"; 4].map(String::from), 0));
     assert_eq!(disks.text(), [1; 600]);
 }
 
@@ -254,8 +267,7 @@ fn the_calls_of_a_commit() {
 fn no_journal() {
     fn check<J: JournalChoice>(builder: impl Fn() -> RafBuilder<Aegis256, OsRng, J>) {
         let disks = Disks::new();
-        let created = builder().chunk_size(256).create(disks.file.clone(), &KEY);
-        let mut file = created.unwrap();
+        let mut file = builder().chunk_size(256).create(disks.file.clone(), &KEY).unwrap();
         file.write(&[1; 600], 0).unwrap();
         disks.log().calls.clear();
         file.commit().unwrap();
@@ -276,12 +288,10 @@ fn a_source_of_random_bytes_that_fails() {
     let bytes = disks.bytes();
     for calls in 0..2 {
         let builder = disks.builder().truncate(true).rng(failing(calls));
-        let created = builder.create(disks.file.clone(), &KEY);
-        assert_eq!(outcome(created), "UnexpectedEof");
+        assert_eq!(outcome(builder.create(disks.file.clone(), &KEY)), "UnexpectedEof");
     }
     let open = |calls| {
-        let builder = disks.builder().rng(failing(calls));
-        let mut file = builder.open(disks.file.clone(), &KEY).unwrap();
+        let mut file = disks.builder().rng(failing(calls)).open(disks.file.clone(), &KEY).unwrap();
         file.write(&[1; 300], 0).unwrap();
         file
     };
@@ -311,10 +321,7 @@ fn the_reserved_nonce() {
         }))
     };
     let created = builder(1).create(disks.file.clone(), &KEY);
-    assert_eq!(
-        (outcome(created).as_str(), disks.calls()),
-        ("InvalidData", 0)
-    );
+    assert_eq!((outcome(created).as_str(), disks.calls()), ("InvalidData", 0));
     drop(builder(2).create(disks.file.clone(), &KEY).unwrap());
     let mut file = builder(0).open(disks.file.clone(), &KEY).unwrap();
     file.write(b"kept", 0).unwrap();
@@ -368,10 +375,8 @@ a commit failed: open the file again";
 #[test]
 fn builders_keep_what_was_set() {
     let disks = Disks::of((vec![1], Vec::new()));
-    let builder = RafBuilder::<Aegis256>::new().buffer_limit(0).truncate(true);
-    let builder = builder.chunk_size(300).rng(Random(5));
-    let builder = builder.journal(disks.journal.clone());
-    let mut file = builder.create(disks.file.clone(), &KEY).unwrap();
+    let builder = RafBuilder::<Aegis256>::new().buffer_limit(0).truncate(true).chunk_size(300).rng(Random(5));
+    let mut file = builder.journal(disks.journal.clone()).create(disks.file.clone(), &KEY).unwrap();
     file.write(b"text", 0).unwrap();
     assert_eq!(disks.text(), b"text");
     assert_eq!(probe(&mut disks.file.clone()).unwrap().chunk_size, 300);
@@ -395,20 +400,17 @@ fn a_file_that_was_truncated_while_open() {
 fn chunk_sizes() {
     for bytes in [0, 1, 255, 65_537, u32::MAX] {
         let disks = Disks::of((vec![1; 10], Vec::new()));
-        let builder = disks.builder().truncate(true).chunk_size(bytes);
-        let created = builder.create(disks.file.clone(), &KEY);
+        let created = disks.builder().truncate(true).chunk_size(bytes).create(disks.file.clone(), &KEY);
         assert_eq!(outcome(created), "ChunkSize");
         assert_eq!(disks.bytes().0, [1; 10]);
     }
     for bytes in [256, 257, 4032, 65_535, 65_536] {
         let disks = Disks::new();
-        let builder = RafBuilder::<Aegis128L>::new().chunk_size(bytes);
-        let mut file = builder.create(disks.file.clone(), &[7; 16]).unwrap();
+        let mut file = RafBuilder::<Aegis128L>::new().chunk_size(bytes).create(disks.file.clone(), &[7; 16]).unwrap();
         file.write(&[1, 2, 3], u64::from(bytes) - 1).unwrap();
         file.commit().unwrap();
         let found = probe(&mut disks.file.clone()).unwrap();
-        let expected = (bytes, AlgorithmId::Aegis128L);
-        assert_eq!((found.chunk_size, found.algorithm), expected);
+        assert_eq!((found.chunk_size, found.algorithm), (bytes, AlgorithmId::Aegis128L));
         assert_eq!(found.file_size, 4096 + 2 * (u64::from(bytes) + 48));
     }
 }
@@ -441,10 +443,7 @@ fn sizes_and_offsets() {
 #[test]
 fn bytes_that_hold_something() {
     let disks = Disks::of((vec![1; 1000], vec![1]));
-    let create = |truncate| {
-        let builder = disks.builder().truncate(truncate);
-        outcome(builder.create(disks.file.clone(), &KEY))
-    };
+    let create = |truncate| outcome(disks.builder().truncate(truncate).create(disks.file.clone(), &KEY));
     assert_eq!(create(true), "Journal");
     disks.journal.bytes.borrow_mut().clear();
     assert_eq!(create(false), "AlreadyExists");

@@ -35,10 +35,7 @@ fn an_append_without_room() {
         let disks = Disks::of(begun.clone());
         let file = small(&disks.file, &room);
         let journal = small(&disks.journal, &room);
-        let open = || {
-            let builder = disks.builder().journal(journal.clone());
-            builder.open(file.clone(), &KEY).unwrap()
-        };
+        let open = || disks.builder().journal(journal.clone()).open(file.clone(), &KEY).unwrap();
         let mut opened = open();
         opened.write(&[2; 5000], 900).unwrap();
         let is_made = opened.commit().is_ok();
@@ -53,8 +50,7 @@ fn an_append_without_room() {
 /// nothing is changed.
 #[test]
 fn a_whole_journal_without_room() {
-    let begun = Disks::with(&[1; 1000]).bytes();
-    let disks = cut_short(&begun, &[2; 300], 0, JOURNAL_CALLS);
+    let disks = cut_short(&Disks::with(&[1; 1000]).bytes(), &[2; 300], 0, JOURNAL_CALLS);
     let left = disks.bytes();
     disks.log().is_full = true;
     for _ in 0..2 {
@@ -62,8 +58,7 @@ fn a_whole_journal_without_room() {
         assert_eq!(disks.bytes(), left);
     }
     disks.log().is_full = false;
-    let expected = [[2; 300].as_slice(), &[1; 700]].concat();
-    assert_eq!(text_of(&mut disks.open().unwrap()), expected);
+    assert_eq!(text_of(&mut disks.open().unwrap()), [[2; 300].as_slice(), &[1; 700]].concat());
 }
 
 /// The calls that the system makes room with: a file of the system has room on its disk for what is reserved.

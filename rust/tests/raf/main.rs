@@ -1,12 +1,9 @@
-//! Files that are read and written at any place: beside a vector that holds the same text, after crashes, errors and damage,
-//! and at paths.
+//! Files that are read and written at any place: beside a vector that holds the same text, after errors and damage, and at
+//! paths. What a loss of power leaves is tested in `testkit/disk`.
 
 mod attacks;
-mod batches;
 mod calls;
-mod crashes;
 mod damage;
-mod failed_syncs;
 mod formats;
 mod full_disk;
 mod model;

@@ -18,11 +18,10 @@ struct Model<A: Algorithm> {
 impl<A: Algorithm> Model<A> {
     fn new(chunk_size: u32, limit: usize) -> Self {
         let disks = Disks::new();
-        let builder = RafBuilder::with_rng(Random(7)).journal(disks.journal.clone());
-        let builder = builder.chunk_size(chunk_size).buffer_limit(limit);
+        let builder = RafBuilder::with_rng(Random(7)).journal(disks.journal.clone()).buffer_limit(limit);
         let key = A::Key::default();
         Model {
-            file: builder.create(disks.file.clone(), &key).unwrap(),
+            file: builder.chunk_size(chunk_size).create(disks.file.clone(), &key).unwrap(),
             text: Vec::new(),
             committed: Vec::new(),
             disks,
@@ -52,11 +51,8 @@ impl<A: Algorithm> Model<A> {
     fn reopen(&mut self) {
         // Its changes are forgotten, so that dropping it commits none.
         self.file.discard();
-        let builder = RafBuilder::with_rng(Random(self.random.next()));
-        let builder = builder.buffer_limit(self.limit);
-        let builder = builder.journal(self.disks.journal.clone());
-        let opened = builder.open(self.disks.file.clone(), &self.key);
-        self.file = opened.unwrap();
+        let builder = RafBuilder::with_rng(Random(self.random.next())).buffer_limit(self.limit);
+        self.file = builder.journal(self.disks.journal.clone()).open(self.disks.file.clone(), &self.key).unwrap();
     }
 
     fn step(&mut self) {

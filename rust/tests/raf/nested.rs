@@ -61,10 +61,7 @@ macro_rules! contents {
                 found
             }
 
-            fn batch(
-                &mut self,
-                run: &mut dyn FnMut(&mut FileBatch<'_>) -> Result<()>,
-            ) -> Result<()> {
+            fn batch(&mut self, run: &mut dyn FnMut(&mut FileBatch<'_>) -> Result<()>) -> Result<()> {
                 self.batch(run)
             }
         }
@@ -79,8 +76,7 @@ fn run_calls<'t>(file: &mut dyn Contents, lines: &mut Lines<'t>, disks: &Disks) 
         let words: Vec<&str> = line.split(' ').collect();
         match words[0] {
             "write" | "truncate" => {
-                let changed = file.change(&words);
-                assert_eq!(result_of(changed), words[words.len() - 1], "{line}");
+                assert_eq!(result_of(file.change(&words)), words[words.len() - 1], "{line}");
             }
             "contents" => assert_eq!(file.contents(), bytes_of(words[1]), "{line}"),
             "stored" => assert_eq!(disks.text(), bytes_of(words[1]), "{line}"),
@@ -156,8 +152,7 @@ fn scenes_of_batches() {
 /// A file whose contents are this text, with a limit on changes of 600 bytes.
 fn with_text(text: &[u8]) -> (File, Disks) {
     let disks = Disks::with(text);
-    let builder = disks.builder().buffer_limit(600);
-    (builder.open(disks.file.clone(), &KEY).unwrap(), disks)
+    (disks.builder().buffer_limit(600).open(disks.file.clone(), &KEY).unwrap(), disks)
 }
 
 /// No write and no flush in a batch commits, whatever the limit on changes in memory. After it they do.
@@ -227,46 +222,4 @@ fn batches_that_panic() {
     });
     assert!(catch_unwind(dropped).is_err());
     assert_eq!(disks.text(), b"AC00");
-}
-
-/// Undoing a batch takes back pages that an outer one has changed, truncated or made, and all others.
-#[test]
-fn random_batches() {
-    let mut random = Random(11);
-    for _ in 0..300 {
-        let disks = Disks::with(&[9; 1000]);
-        let mut file = disks.open().unwrap();
-        let mut text = vec![9; 1000];
-        random_changes(&mut file, &mut text, &mut random, 0);
-        file.commit().unwrap();
-        assert_eq!(disks.text(), text);
-    }
-}
-
-/// Makes changes and batches in a file, and the same in a text.
-fn random_changes(file: &mut dyn Contents, text: &mut Vec<u8>, random: &mut Random, depth: u32) {
-    for _ in 0..5 {
-        let at = random.below(1500);
-        match random.below(if depth < 4 { 4 } else { 2 }) {
-            0 => {
-                file.change(&["truncate", &at.to_string()]).unwrap();
-                text.resize(at as usize, 0);
-            }
-            1 => {
-                file.change(&["write", &at.to_string(), "a1a2a3"]).unwrap();
-                put(text, at, &[0xa1, 0xa2, 0xa3]);
-            }
-            kind => {
-                let mut inner = text.clone();
-                let ended = file.batch(&mut |batch| {
-                    random_changes(batch, &mut inner, random, depth + 1);
-                    (kind == 2).then_some(()).ok_or(Error::Commitment)
-                });
-                if ended.is_ok() {
-                    *text = inner;
-                }
-            }
-        }
-        assert_eq!(file.contents(), *text);
-    }
 }

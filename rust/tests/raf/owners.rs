@@ -28,8 +28,7 @@ fn give(path: &Path, words: &[&str]) -> bool {
 }
 
 fn set_mode(path: &Path, mode: &str) {
-    let mode = u32::from_str_radix(mode, 8).unwrap();
-    fs::set_permissions(path, Permissions::from_mode(mode)).unwrap();
+    fs::set_permissions(path, Permissions::from_mode(u32::from_str_radix(mode, 8).unwrap())).unwrap();
 }
 
 /// A journal is trusted if each user who may write it may write its file.
@@ -70,10 +69,7 @@ fn check_owner(folder: &Folder, expected: &str, row: &str) {
     assert_eq!(opened, "rejected", "{row}");
     for (path, before) in [folder.file(), folder.journal()].iter().zip(before) {
         let after = fs::metadata(path).unwrap();
-        assert_eq!(
-            (after.mode(), after.len(), after.mtime_nsec()),
-            (before.mode(), before.len(), before.mtime_nsec())
-        );
+        assert_eq!((after.mode(), after.len(), after.mtime_nsec()), (before.mode(), before.len(), before.mtime_nsec()));
     }
 }
 
@@ -82,13 +78,11 @@ fn mode_in_a_commit(path: &Path) -> u32 {
     let mode = Cell::new(0);
     let looks = |at| {
         if matches!(at, At::Write(_)) {
-            let journal = path.with_extension("journal");
-            mode.set(fs::metadata(journal)?.mode() & 0o777);
+            mode.set(fs::metadata(path.with_extension("journal"))?.mode() & 0o777);
         }
         Ok(())
     };
-    let io = Before(FileIo::open(path).unwrap(), looks);
-    let mut file = RafBuilder::<Aegis256>::new().open(io, &KEY).unwrap();
+    let mut file = RafBuilder::<Aegis256>::new().open(Before(FileIo::open(path).unwrap(), looks), &KEY).unwrap();
     file.write(b"text", 0).unwrap();
     file.commit().unwrap();
     mode.get()
@@ -100,8 +94,7 @@ fn check_modes(folder: &Path, group: &str) {
         // Only root may open a file that its owner may not write.
         if words[2] == group && (is_root() || words[1] != "464") {
             let expected = u32::from_str_radix(words[3], 8).unwrap();
-            let found = mode_in_a_commit(&folder.join(number.to_string()));
-            assert_eq!(found, expected, "{words:?}");
+            assert_eq!(mode_in_a_commit(&folder.join(number.to_string())), expected, "{words:?}");
         }
     }
 }
@@ -125,15 +118,13 @@ fn modes_of_journals() {
     }
     check_modes(&folder.path(""), "own");
     if is_root() {
-        let test = "owners::modes_of_journals";
-        run_as_another_user(&folder, 0o777, test, VARIABLE, &folder.path(""));
+        run_as_another_user(&folder, 0o777, "owners::modes_of_journals", VARIABLE, &folder.path(""));
     }
 }
 
 /// A whole journal of a commit to the file, which has the contents `after!` then.
 fn whole_journal(folder: &Folder) -> Vec<u8> {
-    let file = (fs::read(folder.file()).unwrap(), Vec::new());
-    cut_short(&file, b"after!", 0, JOURNAL_CALLS).bytes().1
+    cut_short(&(fs::read(folder.file()).unwrap(), Vec::new()), b"after!", 0, JOURNAL_CALLS).bytes().1
 }
 
 /// Prepares a folder for a row, and returns the name that is opened.
@@ -150,39 +141,22 @@ fn prepare(folder: &Folder, case: &str) -> &'static str {
         "journal-folder" | "open-journal-folder" => fs::create_dir(journal),
         "journal-link" | "open-journal-link" => symlink(other, journal),
         "journal-link-to-nothing" => symlink("nothing", journal),
-        "journal-fifo" => {
-            let made = Command::new("mkfifo").arg(journal).status();
-            made.map(|status| assert!(status.success()))
-        }
-        "journal-hard-link" => {
-            fs::write(&journal, [7; 20]).and_then(|()| fs::hard_link(journal, link))
-        }
+        "journal-fifo" => Command::new("mkfifo").arg(journal).status().map(|status| assert!(status.success())),
+        "journal-hard-link" => fs::write(&journal, [7; 20]).and_then(|()| fs::hard_link(journal, link)),
         "open-journal" => fs::write(journal, [7; 20]),
         "journal-empty" | "open-journal-empty" => fs::write(journal, b""),
         "journal-empty-mode-666" => fs::write(&journal, b"").map(|()| set_mode(&journal, "666")),
-        "journal-empty-hard-link" => {
-            fs::write(&journal, b"").and_then(|()| fs::hard_link(journal, link))
-        }
-        "copy-file" => {
-            fs::write(&journal, whole_journal(folder)).and_then(|()| fs::write(copy, b"copy"))
-        }
-        "copy-link" => {
-            fs::write(&journal, whole_journal(folder)).and_then(|()| symlink(other, copy))
-        }
-        "copy-folder" => {
-            fs::write(&journal, whole_journal(folder)).and_then(|()| fs::create_dir(copy))
-        }
+        "journal-empty-hard-link" => fs::write(&journal, b"").and_then(|()| fs::hard_link(journal, link)),
+        "copy-file" => fs::write(&journal, whole_journal(folder)).and_then(|()| fs::write(copy, b"copy")),
+        "copy-link" => fs::write(&journal, whole_journal(folder)).and_then(|()| symlink(other, copy)),
+        "copy-folder" => fs::write(&journal, whole_journal(folder)).and_then(|()| fs::create_dir(copy)),
         "open-renamed" => fs::rename(file, folder.path("renamed")),
         "open-removed" => fs::remove_file(file),
         "open-replaced" => fs::rename(other, file),
         _ => panic!("no test of the row {case}"),
     }
     .unwrap();
-    if case.starts_with("link") {
-        "link"
-    } else {
-        "file"
-    }
+    if case.starts_with("link") { "link" } else { "file" }
 }
 
 /// Names: links, what is in the place of a journal or of its copy, and what happens to a file that is open.

@@ -6,43 +6,31 @@ use std::collections::HashSet;
 use std::fs;
 use std::io::{Read, Seek, SeekFrom, Write};
 use std::os::unix::fs::symlink;
-use std::process::Command;
 
-/// A whole journal that lies beside a file is completed, and a torn one is left out; both are then gone.
+/// A whole journal that lies beside a file is completed, and a torn one is left out; both are then gone. A new file is not made over
+/// a journal.
 #[test]
 fn journals_beside_a_file() {
     let folder = Folder::with(b"before");
     let before = fs::read(folder.file()).unwrap();
     // The same commit over a copy in memory gives the journal.
-    let copy = (before.clone(), Vec::new());
-    let (_, whole) = cut_short(&copy, b"after!", 0, JOURNAL_CALLS).bytes();
+    let whole = cut_short(&(before.clone(), Vec::new()), b"after!", 0, JOURNAL_CALLS).bytes().1;
     let put = |length| {
         fs::write(folder.file(), &before).unwrap();
         fs::write(folder.journal(), &whole[..length]).unwrap();
     };
-    // By the file's storage too.
-    let by_storage = || {
-        let io = FileIo::open(folder.file())?;
-        RafBuilder::new().open(io, &KEY)
-    };
-    for length in [whole.len(), whole.len() - 1, 5, 0] {
-        let is_whole = length == whole.len();
-        let text = if is_whole { b"after!" } else { b"before" };
+    for (length, text) in [(whole.len(), b"after!"), (whole.len() - 1, b"before"), (0, b"before")] {
         put(length);
-        assert_eq!(folder.text(), text);
-        assert_eq!(folder.names(), ["file"]);
-        put(length);
-        assert_eq!(text_of(&mut by_storage().unwrap()), text);
+        let opened = RafBuilder::new().open(FileIo::open(folder.file()).unwrap(), &KEY);
+        assert_eq!(text_of(&mut opened.unwrap()), text);
         assert_eq!(folder.names(), ["file"]);
     }
-    // A new file is not made over a journal, and nothing is changed.
     put(whole.len());
     assert_eq!(outcome(folder.create_over()), "Journal");
     assert_eq!(fs::read(folder.file()).unwrap(), before);
-    assert_eq!(fs::read(folder.journal()).unwrap(), whole);
     fs::remove_file(folder.file()).unwrap();
     assert_eq!(outcome(folder.create()), "Journal");
-    assert_eq!(folder.names(), ["file.journal"]);
+    assert_eq!((folder.names(), fs::read(folder.journal()).unwrap()), (vec!["file.journal".to_owned()], whole));
 }
 
 /// A lock ends with its file, even if a copy of the descriptor is still open, as one is in a process that is being started. Until
@@ -83,8 +71,7 @@ fn each_way_to_create_a_file() {
     assert!(!is_written(over().create(io, &KEY)));
     // But not if its path is not known.
     let io = fs::File::options().read(true).write(true).open(&path);
-    let io = FileIo::new(io.unwrap());
-    assert!(is_written(over().create(io, &KEY)));
+    assert!(is_written(over().create(FileIo::new(io.unwrap()), &KEY)));
 }
 
 /// The system's bytes differ from draw to draw, at each place. The chance of fewer values is below 2^-100. Their source keeps no
@@ -100,25 +87,6 @@ fn the_bytes_of_the_system() {
         let values: HashSet<u8> = draws.iter().map(|drawn| drawn[place]).collect();
         assert!(values.len() > 20, "{place}: {values:?}");
     }
-}
-
-/// This test runs itself again: another process gets other bytes from the system, and so does the next one.
-#[test]
-fn the_bytes_of_another_process() {
-    const VARIABLE: &str = "HUNKRAVY_SHOWS_RANDOM";
-    let mut drawn = [0; 16];
-    OsRng.fill(&mut drawn).unwrap();
-    if std::env::var_os(VARIABLE).is_some() {
-        eprintln!("{drawn:?}");
-        return;
-    }
-    let shown = || {
-        let mut test = Command::new(std::env::current_exe().unwrap());
-        test.args(["paths::the_bytes_of_another_process", "--nocapture"]);
-        test.env(VARIABLE, "1").output().unwrap().stderr
-    };
-    let first = shown();
-    assert!(first.len() > 30 && first != shown());
 }
 
 /// The id of a file, and the nonce of each header and page, are drawn.
@@ -151,15 +119,12 @@ fn refused_before_anything_is_changed() {
     folder.create().unwrap().write(b"kept", 0).unwrap();
     let created = over().chunk_size(65_537).create_file(&path, &KEY);
     assert_eq!(outcome(created), "ChunkSize");
-    let created = over().rng(failing(1)).create_file(&path, &KEY);
-    assert_eq!(outcome(created), "UnexpectedEof");
+    assert_eq!(outcome(over().rng(failing(1)).create_file(&path, &KEY)), "UnexpectedEof");
     assert_eq!(outcome(folder.create()), "AlreadyExists");
     assert_eq!(folder.text(), b"kept");
     assert_eq!(folder.create_over().unwrap().size(), 0);
-    let opened = Raf::<Aegis256>::open_file(folder.path("none"), &KEY);
-    assert_eq!(outcome(opened), "NotFound");
-    let created = Raf::<Aegis256>::create_file(folder.path("no/folder"), &KEY);
-    assert_eq!(outcome(created), "NotFound");
+    assert_eq!(outcome(Raf::<Aegis256>::open_file(folder.path("none"), &KEY)), "NotFound");
+    assert_eq!(outcome(Raf::<Aegis256>::create_file(folder.path("no/folder"), &KEY)), "NotFound");
 }
 
 /// What fails after a file was made removes it again, unless another program has it or gave it another name.
@@ -174,23 +139,20 @@ fn refused_after_a_file_was_made() {
     };
     for builder in [RafBuilder::<Aegis256>::new, over] {
         for (journal, error) in [(used(), "Journal"), (unsynced(), "Other")] {
-            let created = builder().journal(journal).create_file(folder.file(), &KEY);
-            assert_eq!(outcome(created), error);
+            assert_eq!(outcome(builder().journal(journal).create_file(folder.file(), &KEY)), error);
             assert!(folder.names().is_empty());
         }
     }
     // One that is there already is kept, and so is one that another program opens meanwhile.
     fs::write(folder.file(), b"").unwrap();
-    let created = over().journal(used()).create_file(folder.file(), &KEY);
-    assert_eq!(outcome(created), "Journal");
+    assert_eq!(outcome(over().journal(used()).create_file(folder.file(), &KEY)), "Journal");
     assert_eq!(folder.names(), ["file"]);
     let links = |at| match at {
         At::Sync => Ok(fs::hard_link(folder.path("new"), folder.path("other"))?),
         _ => Ok(()),
     };
     let builder = over().journal(Before(Disks::new().journal, links));
-    let created = builder.create_file(folder.path("new"), &KEY);
-    assert_eq!(outcome(created), "Moved");
+    assert_eq!(outcome(builder.create_file(folder.path("new"), &KEY)), "Moved");
     assert_eq!(folder.names(), ["file", "new", "other"]);
 }
 
@@ -203,8 +165,7 @@ fn a_file_that_appears_in_place_of_a_journal() {
         _ => Ok(()),
     };
     let io = Before(FileIo::open(folder.file()).unwrap(), appears);
-    let opened = RafBuilder::<Aegis256>::new().open(io, &KEY);
-    assert_eq!(outcome(opened), "Journal");
+    assert_eq!(outcome(RafBuilder::<Aegis256>::new().open(io, &KEY)), "Journal");
     assert_eq!(fs::read(folder.journal()).unwrap(), [7; 40]);
 }
 
@@ -225,20 +186,13 @@ fn a_journal_that_is_replaced_as_it_is_read() {
     assert_eq!(disks.calls(), 0);
 }
 
-/// What is no file, or shorter than the first sector, is rejected and kept.
+/// What is no file, or shorter than the first sector, has no header that is read without its key.
 #[test]
 fn files_that_are_none() {
-    let folder = Folder::with(b"");
-    let file = fs::read(folder.file()).unwrap();
-    let probed = || probe(&mut FileIo::open(folder.file()).unwrap());
-    assert_eq!(probed().unwrap().file_size, 512);
-    let mut another_format = [0; 600];
-    another_format[..9].copy_from_slice(b"AGP2\x21\0\x10\0\0");
-    for bytes in [b"", &file[..511], b"AGP1", &[0; 600], &another_format] {
-        fs::write(folder.file(), bytes).unwrap();
-        assert_eq!(outcome(folder.open()), "Header");
-        assert_eq!(outcome(probed()), "Header");
-        assert_eq!(fs::read(folder.file()).unwrap(), bytes);
+    let (file, _) = Disks::with(b"").bytes();
+    assert_eq!(probe(&mut Disks::of((file.clone(), Vec::new())).file).unwrap().file_size, 512);
+    for bytes in [b"", &file[..511], b"AGP1", &[0; 600], &[b"AGP2\x21\0\x10\0\0", &file[9..]].concat()] {
+        assert_eq!(outcome(probe(&mut Disks::of((bytes.to_vec(), Vec::new())).file)), "Header");
     }
 }
 

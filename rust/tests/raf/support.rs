@@ -1,4 +1,4 @@
-//! Shared by the tests: files on disks in memory that fail and crash, files in folders, and what calls return.
+//! Shared by the tests: files on disks in memory that fail, files in folders, and what calls return.
 
 pub use crate::random::Random;
 use hunkravy::raf::*;
@@ -38,17 +38,11 @@ pub fn text_of<I: RafIo, R: RafRng, J: RafIo>(file: &mut Raf<Aegis256, I, R, J>)
     read(file).unwrap()
 }
 
-/// Returns what the journals of a file begin with.
-pub fn front_of(file: &[u8]) -> [u8; 512] {
-    let mut front = [0; 512];
-    front[..33].copy_from_slice(&file[..33]);
-    front[..4].copy_from_slice(b"AGJ1");
-    front
-}
-
 /// Returns what the journals of another file begin with, whose pages have 256 bytes.
 pub fn front_of_another() -> [u8; 512] {
-    front_of(b"AGP1\x21\0\x01\0\0 the id of another file ")
+    let mut front = [0; 512];
+    front[..33].copy_from_slice(b"AGJ1\x21\0\x01\0\0 the id of another file ");
+    front
 }
 
 // ---- Sources of random bytes
@@ -97,9 +91,7 @@ pub enum Call {
     Write(u64, Vec<u8>),
     Resize(u64),
     Sync,
-    FailedSync,
     Replace(Vec<u8>),
-    FailedReplace(Vec<u8>),
 }
 
 /// The file, or its journal.
@@ -110,13 +102,12 @@ pub enum Part {
 }
 
 /// What the disks of a file and of its journal have in common: their calls, in order, how many of them still succeed, and how many
-/// reads and syncs, how often one was locked, and how many sources of random bytes were made. One sync fails, and then no other.
+/// reads, how often one was locked, and how many sources of random bytes were made.
 #[derive(Default)]
 pub struct Log {
     pub calls: Vec<(Part, Call)>,
     pub left: usize,
     pub reads_left: usize,
-    pub syncs_left: usize,
     pub locks: usize,
     pub seed: u64,
     /// Whether no calls are kept, and whether the disks have no more room.
@@ -143,14 +134,6 @@ impl Disk {
         }
         log.left = log.left.checked_sub(1).ok_or(io::ErrorKind::Other)?;
         Ok(())
-    }
-
-    /// Returns whether the next sync succeeds.
-    fn syncs(&self) -> bool {
-        let mut log = self.log.borrow_mut();
-        let left = log.syncs_left.checked_sub(1);
-        log.syncs_left = left.unwrap_or(usize::MAX);
-        left.is_some()
     }
 
     /// Returns an error if it cannot grow to so many bytes.
@@ -198,24 +181,11 @@ impl RafIo for Disk {
     }
 
     fn sync(&mut self) -> io::Result<()> {
-        let is_done = self.syncs();
-        self.log(|| {
-            if is_done {
-                Call::Sync
-            } else {
-                Call::FailedSync
-            }
-        })?;
-        is_done.then_some(()).ok_or(io::Error::from_raw_os_error(5))
+        self.log(|| Call::Sync)
     }
 
-    /// If it fails, a crash may leave the new bytes or the old ones. Those that can be read are equal.
     fn replace(&mut self, bytes: &[u8]) -> io::Result<()> {
         self.check_room(u64::MAX)?;
-        if !self.syncs() || self.log.borrow().left == 0 {
-            self.log(|| Call::FailedReplace(bytes.to_vec()))?;
-            return Err(io::Error::from_raw_os_error(5));
-        }
         self.log(|| Call::Replace(bytes.to_vec()))?;
         let mut own = self.bytes.borrow_mut();
         own.clear();
@@ -251,22 +221,9 @@ impl Disks {
     }
 
     pub fn of((file, journal): Bytes) -> Self {
-        let log = Rc::new(RefCell::new(Log {
-            left: usize::MAX,
-            reads_left: usize::MAX,
-            syncs_left: usize::MAX,
-            ..Log::default()
-        }));
-        let disk = |bytes, part| Disk {
-            bytes: Rc::new(RefCell::new(bytes)),
-            log: log.clone(),
-            journal: None,
-            part,
-        };
-        Disks {
-            file: disk(file, Part::File),
-            journal: disk(journal, Part::Journal),
-        }
+        let log = Rc::new(RefCell::new(Log { left: usize::MAX, reads_left: usize::MAX, ..Log::default() }));
+        let disk = |bytes, part| Disk { bytes: Rc::new(RefCell::new(bytes)), log: log.clone(), journal: None, part };
+        Disks { file: disk(file, Part::File), journal: disk(journal, Part::Journal) }
     }
 
     /// The disks of a new file with these contents.
@@ -295,22 +252,15 @@ impl Disks {
         (bytes(&self.file), bytes(&self.journal))
     }
 
-    pub fn set(&self, (file, journal): &Bytes) {
-        self.file.bytes.borrow_mut().clone_from(file);
-        self.journal.bytes.borrow_mut().clone_from(journal);
-    }
-
     /// A builder of files in pages of 256 bytes, with another source of random bytes each time.
     pub fn builder(&self) -> RafBuilder<Aegis256, Random, Disk> {
         self.log().seed += 1;
-        let builder = RafBuilder::with_rng(Random(self.log().seed)).chunk_size(256);
-        builder.journal(self.journal.clone())
+        RafBuilder::with_rng(Random(self.log().seed)).chunk_size(256).journal(self.journal.clone())
     }
 
     /// Creates a file that no write commits.
     pub fn create(&self) -> File {
-        let builder = self.builder().buffer_limit(usize::MAX);
-        builder.create(self.file.clone(), &KEY).unwrap()
+        self.builder().buffer_limit(usize::MAX).create(self.file.clone(), &KEY).unwrap()
     }
 
     pub fn open(&self) -> Result<File> {
@@ -319,8 +269,7 @@ impl Disks {
 
     /// Returns the contents that an opening would find. It changes nothing.
     pub fn text(&self) -> Vec<u8> {
-        let copy = Self::of(self.bytes());
-        text_of(&mut copy.open().unwrap())
+        text_of(&mut Self::of(self.bytes()).open().unwrap())
     }
 }
 
@@ -402,109 +351,11 @@ impl<I: RafIo, F: FnMut(At) -> Result<()>> RafIo for Before<I, F> {
     }
 }
 
-// ---- Crashes
-
 /// Writes bytes at a place, after zeros in a gap.
 pub fn put(bytes: &mut Vec<u8>, offset: u64, data: &[u8]) {
     let (start, end) = (offset as usize, offset as usize + data.len());
     bytes.resize(bytes.len().max(end), 0);
     bytes[start..end].copy_from_slice(data);
-}
-
-/// Makes a change.
-fn apply(bytes: &mut Vec<u8>, change: &Call) {
-    match change {
-        Call::Write(offset, data) => put(bytes, *offset, data),
-        Call::Resize(size) => bytes.resize(*size as usize, 0),
-        Call::Replace(data) => bytes.clone_from(data),
-        Call::Sync | Call::FailedSync | Call::FailedReplace(_) => (),
-    }
-}
-
-/// Returns what a crash may leave of bytes that were synced, and then changed by these calls.
-fn torn(mut bytes: Vec<u8>, calls: &[&Call], random: &mut Random) -> Vec<u8> {
-    let mut pending = Vec::new();
-    for call in calls.iter().chain([&&Call::FailedSync]) {
-        match call {
-            Call::Sync => pending.drain(..).for_each(|call| apply(&mut bytes, call)),
-            Call::FailedSync => lose(&mut bytes, pending.drain(..), random),
-            Call::FailedReplace(_) if random.below(2) == 0 => (),
-            Call::Replace(data) | Call::FailedReplace(data) => {
-                pending.clear();
-                bytes.clone_from(data);
-            }
-            change => pending.push(*change),
-        }
-    }
-    bytes
-}
-
-/// Makes anything of changes.
-fn lose<'c>(bytes: &mut Vec<u8>, changes: impl Iterator<Item = &'c Call>, random: &mut Random) {
-    let mut sizes = vec![bytes.len()];
-    let mut whole = bytes.clone();
-    for change in changes {
-        apply(&mut whole, change);
-        sizes.push(whole.len());
-        if let Call::Write(offset, data) = change {
-            tear(bytes, *offset, data, random);
-        }
-    }
-    bytes.resize(sizes[random.below(sizes.len() as u64) as usize], 0);
-}
-
-/// Leaves any bytes where a write was to be: those of before, those of after, garbage, or what another file's journal
-/// begins with, in pieces of some length.
-fn tear(bytes: &mut Vec<u8>, offset: u64, data: &[u8], random: &mut Random) {
-    let piece = [1, 16, 100, 512, 4096, data.len()][random.below(6) as usize].max(1);
-    let kinds = 1 + random.below(4);
-    let first = random.below(4);
-    // A tail that is torn, as well as pieces here and there.
-    let cut = random.below(data.len().div_ceil(piece) as u64 + 1) as usize;
-    let is_tail = random.below(2) == 0;
-    for (number, part) in data.chunks(piece).enumerate() {
-        let place = offset + (number * piece) as u64;
-        let kind = (first + random.below(kinds)) % 4;
-        match if is_tail && number < cut { 1 } else { kind } {
-            0 => (),
-            1 => put(bytes, place, part),
-            2 => put(bytes, place, &random.bytes(part.len())),
-            // What is after its front is garbage.
-            _ => {
-                let front = front_of_another();
-                let rest = front.get(place as usize..).unwrap_or(&[]);
-                let garbage = random.bytes(part.len());
-                let left = rest.iter().chain(garbage.iter().skip(rest.len()));
-                let left: Vec<u8> = left.take(part.len()).copied().collect();
-                put(bytes, place, &left);
-            }
-        }
-    }
-}
-
-/// Returns the calls of one of the two.
-fn of_part(calls: &[(Part, Call)], part: Part) -> Vec<&Call> {
-    let own = calls.iter().filter(|call| call.0 == part);
-    own.map(|call| &call.1).collect()
-}
-
-/// Returns a file and its journal after these calls, if there is no crash.
-pub fn changed((file, journal): &Bytes, calls: &[(Part, Call)]) -> Bytes {
-    let after = |bytes: &Vec<u8>, part| {
-        let mut bytes = bytes.clone();
-        let calls = of_part(calls, part);
-        calls.iter().for_each(|call| apply(&mut bytes, call));
-        bytes
-    };
-    (after(file, Part::File), after(journal, Part::Journal))
-}
-
-/// Returns what a crash after these calls may leave of a file and its journal, all of whose bytes were synced before.
-pub fn crashed((file, journal): &Bytes, calls: &[(Part, Call)], random: &mut Random) -> Bytes {
-    (
-        torn(file.clone(), &of_part(calls, Part::File), random),
-        torn(journal.clone(), &of_part(calls, Part::Journal), random),
-    )
 }
 
 // ---- Files in folders
@@ -545,9 +396,7 @@ impl Folder {
     pub fn names(&self) -> Vec<String> {
         let files = fs::read_dir(&self.0).unwrap();
         let name = |file: io::Result<fs::DirEntry>| file.unwrap().file_name();
-        let mut names: Vec<_> = files
-            .map(|file| name(file).into_string().unwrap())
-            .collect();
+        let mut names: Vec<_> = files.map(|file| name(file).into_string().unwrap()).collect();
         names.sort();
         names
     }
@@ -628,8 +477,5 @@ pub fn run_as_another_user(folder: &Folder, mode: u32, test: &str, variable: &st
     let output = command.output().unwrap();
     allow(&folder.path(""), 0o755);
     let printed = String::from_utf8_lossy(&output.stdout);
-    assert!(
-        output.status.success() && printed.contains("1 passed"),
-        "{mode:o} {printed}"
-    );
+    assert!(output.status.success() && printed.contains("1 passed"), "{mode:o} {printed}");
 }

@@ -34,13 +34,10 @@ fn check(damaged: &Damaged, (contents, fault): Found) {
 #[test]
 fn the_stored_file() {
     let file = fs::read(data("records.sealed")).unwrap();
-    let prefix = file.first_chunk().unwrap();
-    assert_eq!(sealed(&key(), prefix, &MESSAGES), file);
+    assert_eq!(sealed(&key(), file.first_chunk().unwrap(), &MESSAGES), file);
     assert_eq!(read_key(data("key")).unwrap(), key());
-    let missing = read_key(data("none")).unwrap_err();
-    assert_eq!(missing.kind(), ErrorKind::NotFound);
-    let no_key = read_key(data("records.sealed")).unwrap_err();
-    assert_eq!(no_key.kind(), ErrorKind::InvalidData);
+    assert_eq!(read_key(data("none")).unwrap_err().kind(), ErrorKind::NotFound);
+    assert_eq!(read_key(data("records.sealed")).unwrap_err().kind(), ErrorKind::InvalidData);
 }
 
 /// The fault is the same in reads of any lengths, and all bytes before it are returned.
@@ -49,8 +46,7 @@ fn read_in_any_lengths() {
     for damaged in damaged() {
         for inner_most in [1, 3, 64, usize::MAX] {
             for most in [1, 2, 7, 100_000] {
-                let inner = Before(&damaged.bytes[..], slow(inner_most));
-                let mut reader = SealedReader::new(inner, &damaged.key);
+                let mut reader = SealedReader::new(Before(&damaged.bytes[..], slow(inner_most)), &damaged.key);
                 check(&damaged, read_all(&mut reader, most));
                 stays(&damaged, &mut reader);
             }
@@ -75,8 +71,7 @@ fn read_with_errors() {
     for damaged in damaged() {
         for calls in 0..20 {
             let left = Cell::new(calls);
-            let slow = Before(&damaged.bytes[..], slow(17));
-            let inner = Before(slow, failing(&left));
+            let inner = Before(Before(&damaged.bytes[..], slow(17)), failing(&left));
             let mut reader = SealedReader::new(inner, &damaged.key);
             let (mut contents, mut blocked) = (Vec::new(), 0);
             let fault = loop {
@@ -136,8 +131,7 @@ fn check_sought(damaged: &Damaged, contents: &[u8], place: usize, to: SeekFrom) 
     };
     if let Some(fault) = fault {
         assert!(damaged.cause.is_some(), "{} {to:?}", damaged.name);
-        let again = reader.rewind().unwrap_err();
-        assert_eq!(fault_of(&again), fault);
+        assert_eq!(fault_of(&reader.rewind().unwrap_err()), fault);
         assert_eq!(read_all(&mut reader, 3), (Vec::new(), Some(fault)));
     }
 }

@@ -20,8 +20,7 @@ fn opener_at(number: u64, before: u64) -> Result<Opener<'static>, Error> {
 /// Each record opens at its position alone, and all that follow it.
 #[test]
 fn opened_at_each_position() {
-    let file = sealed(&key(), &PREFIX, &MESSAGES);
-    let stream = &file[24..];
+    let stream = &sealed(&key(), &PREFIX, &MESSAGES)[24..];
     let mut whole = opener(&stream[..4]);
     let mut before = 0;
     for (number, message) in MESSAGES.iter().enumerate() {
@@ -118,8 +117,7 @@ fn contexts() {
         sealer.seal_last(b"message", &mut stream).unwrap();
         for opening in contexts {
             let mut opener = Opener::new(&key(), &PREFIX, opening, &stream[..4]).unwrap();
-            let opened = opener.open_next(&stream[4..]);
-            assert_eq!(opened.is_ok(), opening == sealing);
+            assert_eq!(opener.open_next(&stream[4..]).is_ok(), opening == sealing);
         }
     }
     let (key, too_long) = (key(), [0; MAX_CONTEXT_BYTES + 1]);
@@ -141,8 +139,7 @@ fn unfinished() {
     let rest = opener.open_next(records).unwrap().rest;
     assert_eq!(opener.finish(rest), Err(Error::Truncated));
     for header in [&b""[..], b"AGR", b"AGR2\0", b"AGR1"] {
-        let begun = Opener::new(&key(), &PREFIX, CONTEXT, header);
-        assert_eq!(begun.err(), Some(Error::Header));
+        assert_eq!(Opener::new(&key(), &PREFIX, CONTEXT, header).err(), Some(Error::Header));
     }
 }
 

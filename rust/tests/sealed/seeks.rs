@@ -90,12 +90,10 @@ fn step(random: &mut Random, reader: &mut (impl BufRead + Seek), expected: &mut 
 /// Places that no contents have.
 #[test]
 fn places_out_of_bounds() {
-    let file = sealed_in_pieces(&key(), &PREFIX, &[1; 100]);
-    let mut reader = SealedReader::new(Cursor::new(file), &key());
+    let mut reader = SealedReader::new(Cursor::new(sealed_in_pieces(&key(), &PREFIX, &[1; 100])), &key());
     reader.seek(Start(50)).unwrap();
     for to in [Current(-51), End(-101), Current(i64::MIN), End(i64::MIN)] {
-        let error = reader.seek(to).unwrap_err();
-        assert_eq!(error.kind(), ErrorKind::InvalidInput);
+        assert_eq!(reader.seek(to).unwrap_err().kind(), ErrorKind::InvalidInput);
         assert_eq!(reader.stream_position().unwrap(), 50);
         assert_eq!(reader.fill_buf().unwrap(), [1; 50]);
     }
@@ -105,8 +103,7 @@ fn places_out_of_bounds() {
         assert_eq!(reader.read(&mut [0]).unwrap(), 0);
     }
     reader.seek(Start(u64::MAX)).unwrap();
-    let error = reader.seek(Current(1)).unwrap_err();
-    assert_eq!(error.kind(), ErrorKind::InvalidInput);
+    assert_eq!(reader.seek(Current(1)).unwrap_err().kind(), ErrorKind::InvalidInput);
     reader.rewind().unwrap();
     assert_eq!(reader.fill_buf().unwrap(), [1; 100]);
 }
@@ -123,8 +120,7 @@ fn before_the_start() {
             _ => assert_eq!(reader.seek(Start(place)).unwrap(), place),
         }
         for _ in 0..2 {
-            let error = reader.seek(End(-18)).unwrap_err();
-            assert_eq!(error.kind(), ErrorKind::InvalidInput);
+            assert_eq!(reader.seek(End(-18)).unwrap_err().kind(), ErrorKind::InvalidInput);
             assert_eq!(reader.stream_position().unwrap(), place);
         }
         let found = reader.fill_buf().map_err(|error| fault_of(&error));
@@ -240,8 +236,7 @@ fn flags_that_change() {
         }
     };
     let mut reader = SealedReader::new(After(Cursor::new(file), flip), &key());
-    let error = reader.seek(End(0)).unwrap_err();
-    assert_eq!(error.kind(), ErrorKind::InvalidData);
+    assert_eq!(reader.seek(End(0)).unwrap_err().kind(), ErrorKind::InvalidData);
     assert!(reader.read(&mut [0]).is_err());
 }
 
@@ -249,8 +244,7 @@ fn flags_that_change() {
 #[test]
 fn only_what_is_needed_is_read() {
     let contents = Random(4).bytes(40 * PIECE_BYTES + 9);
-    let file = sealed_in_pieces(&key(), &PREFIX, &contents);
-    let bytes = [&[0x41; 9], &file[..]].concat();
+    let bytes = [&[0x41; 9], &sealed_in_pieces(&key(), &PREFIX, &contents)[..]].concat();
     let (whole, end) = (40 * 65_536, 40 * 65_536 + 9);
     for (to, place, most) in [
         (Start(30 * 65_536 + 5), 30 * 65_536 + 5, 28 + WHOLE_BYTES),
@@ -262,9 +256,7 @@ fn only_what_is_needed_is_read() {
         let count = Cell::new(0);
         let mut inner = Cursor::new(&bytes);
         inner.set_position(9);
-        let counted = After(inner, |_, bytes: &mut [u8]| {
-            count.set(count.get() + bytes.len())
-        });
+        let counted = After(inner, |_, bytes: &mut [u8]| count.set(count.get() + bytes.len()));
         let mut reader = SealedReader::new(counted, &key());
         assert_eq!(reader.seek(to).unwrap(), place as u64);
         assert!(count.get() <= most, "{to:?} {count:?}");
@@ -287,12 +279,9 @@ fn zeros() {
     file.resize(1 << 20, 0);
     for to in [End(0), Start(5)] {
         let mut count = 0;
-        let counted = After(Cursor::new(&file), |_, bytes: &mut [u8]| {
-            count += bytes.len()
-        });
+        let counted = After(Cursor::new(&file), |_, bytes: &mut [u8]| count += bytes.len());
         let mut reader = SealedReader::new(counted, &key());
-        let fault = fault_of(&reader.seek(to).unwrap_err());
-        assert_eq!(fault, Error::Damaged(1));
+        assert_eq!(fault_of(&reader.seek(to).unwrap_err()), Error::Damaged(1));
         drop(reader);
         assert!(count < 2 * WHOLE_BYTES, "{to:?} {count}");
     }

@@ -21,8 +21,7 @@ pub fn key() -> [u8; 32] {
 
 /// The path of a file of `crates/hunkravy/data`.
 pub fn data(name: &str) -> PathBuf {
-    let folder = concat!(env!("CARGO_MANIFEST_DIR"), "/../crates/hunkravy/data");
-    PathBuf::from(folder).join(name)
+    PathBuf::from(concat!(env!("CARGO_MANIFEST_DIR"), "/../crates/hunkravy/data")).join(name)
 }
 
 /// A variant of the stored file.
@@ -128,8 +127,7 @@ pub fn sealed_in_pieces(key: &[u8; 32], prefix: &Prefix, contents: &[u8]) -> Vec
 /// The fault that an error holds.
 pub fn fault_of(error: &io::Error) -> Error {
     assert_eq!(error.kind(), ErrorKind::InvalidData, "{error:?}");
-    let inner = error.get_ref().expect("it holds the fault");
-    *inner.downcast_ref().expect("it is a fault of a stream")
+    *error.get_ref().expect("it holds the fault").downcast_ref().expect("it is a fault of a stream")
 }
 
 /// A call of a reader or a writer.

@@ -15,16 +15,10 @@ use std::process::Command;
 fn written_in_any_lengths() {
     let contents = Random(1).bytes(200_000);
     let mut prefixes = HashSet::new();
-    let around = [
-        PIECE_BYTES - 1,
-        PIECE_BYTES,
-        PIECE_BYTES + 1,
-        2 * PIECE_BYTES,
-    ];
+    let around = [PIECE_BYTES - 1, PIECE_BYTES, PIECE_BYTES + 1, 2 * PIECE_BYTES];
     for length in [0, 1, 1000, 200_000].into_iter().chain(around) {
         for most in [1, 999, PIECE_BYTES, 200_000] {
-            let inner = Before(Vec::new(), slow(50_000));
-            let mut writer = SealedWriter::new(inner, &key()).unwrap();
+            let mut writer = SealedWriter::new(Before(Vec::new(), slow(50_000)), &key()).unwrap();
             for chunk in contents[..length].chunks(most) {
                 writer.write_all(chunk).unwrap();
                 assert_eq!(writer.write(&[]).unwrap(), 0);
@@ -91,8 +85,7 @@ fn written_before_the_end() {
     assert_eq!(format!("{writer:?}"), "SealedWriter { .. }");
     let mut file = writer.get_ref().clone();
     drop(writer);
-    let fault = fault_of(&read(&file).unwrap_err());
-    assert_eq!(fault, Error::Truncated);
+    assert_eq!(fault_of(&read(&file).unwrap_err()), Error::Truncated);
     // Nor does a file of which the last record is missing.
     file.truncate(28);
     assert_eq!(fault_of(&read(&file).unwrap_err()), Error::Truncated);
@@ -128,11 +121,7 @@ fn written(file: &mut impl Write, contents: &[u8]) -> io::Result<()> {
             // Only a flush leaves the writer as it was.
             return Err(error);
         }
-        let results = [
-            writer.write(&[]).map(drop),
-            writer.flush(),
-            writer.finish().map(drop),
-        ];
+        let results = [writer.write(&[]).map(drop), writer.flush(), writer.finish().map(drop)];
         for result in results {
             assert_eq!(result.unwrap_err().kind(), ErrorKind::Other);
         }
@@ -152,8 +141,7 @@ fn writers_that_cannot_be_flushed() {
     let mut writer = SealedWriter::new(Before(&mut file, refuse), &key()).unwrap();
     writer.write_all(b"contents").unwrap();
     assert_eq!(writer.flush().unwrap_err().kind(), ErrorKind::StorageFull);
-    let finished = writer.finish().map(drop);
-    assert_eq!(finished.unwrap_err().kind(), ErrorKind::StorageFull);
+    assert_eq!(writer.finish().map(drop).unwrap_err().kind(), ErrorKind::StorageFull);
     assert_eq!(read(&file).unwrap(), b"contents");
 }
 
@@ -191,8 +179,7 @@ fn writers_that_panic() {
 #[test]
 fn records_of_any_lengths() {
     let longest = vec![3; MAX_MESSAGE_BYTES];
-    let lengths = [70_000, 0, 200_000, MAX_MESSAGE_BYTES, 5, 1];
-    let messages: [&[u8]; 6] = lengths.map(|length| &longest[..length]);
+    let messages: [&[u8]; 6] = [70_000, 0, 200_000, MAX_MESSAGE_BYTES, 5, 1].map(|length| &longest[..length]);
     let file = sealed(&key(), &[9; 24], &messages);
     assert!(read(&file).unwrap() == messages.concat());
     let mut reader = SealedReader::new(&file[..], &key());
