@@ -484,9 +484,12 @@ static int create_storage(hunkravy_file *file)
 /* Overwrites and frees a file. */
 static void free_file(hunkravy_file *file)
 {
-    hunkravy_file_discard(file);
-    if (file->buckets != file->first_buckets) {
-        free(file->buckets);
+    /* In a forked process the lists are as a thread of the other one had them at that moment: their memory stays. */
+    if (hunkravy_file_seems_this(&file->owner)) {
+        hunkravy_file_discard(file);
+        if (file->buckets != file->first_buckets) {
+            free(file->buckets);
+        }
     }
     if (file->shown != NULL) {
         hunkravy_wipe(file->shown, file->room * file->page_bytes);

@@ -192,8 +192,9 @@ static int open_in(File *self, PyObject *given, PyObject *named, bool is_new)
             is_new ? of_create : of_open, PyUnicode_FSConverter, &path, &key, &cipher, &checks, &size)) {
         return -1;
     }
-    if (self->file != NULL) {
-        PyErr_SetString(PyExc_RuntimeError, "the file is open already");
+    bool is_used = self->file != NULL || !PyThread_acquire_lock(self->lock, NOWAIT_LOCK);
+    if (is_used) {
+        PyErr_SetString(PyExc_RuntimeError, "the file is open already, or a thread was using this object at a fork");
     } else if (cipher != NULL) {
         variant = variant_of(cipher);
     }
@@ -219,6 +220,9 @@ static int open_in(File *self, PyObject *given, PyObject *named, bool is_new)
         } else {
             (void)result_of(code, 0, path, NULL);
         }
+    }
+    if (!is_used) {
+        PyThread_release_lock(self->lock);
     }
     PyBuffer_Release(&key);
     Py_DECREF(path);
