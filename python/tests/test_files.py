@@ -332,10 +332,9 @@ class Writing(unittest.TestCase):
             text.write("contents")
         self.assertEqual(SealedReader(io.BytesIO(file.getvalue()), KEY).read(), b"contents")
         file = io.BytesIO()
-        with self.assertRaises(KeyError):
-            with SealedWriter(file, KEY) as writer, io.BufferedWriter(writer) as buffered:
-                buffered.write(b"contents")
-                raise KeyError
+        with self.assertRaises(KeyError), SealedWriter(file, KEY) as writer, io.BufferedWriter(writer) as buffered:
+            buffered.write(b"contents")
+            raise KeyError
         self.assert_incomplete(file)
 
     def test_a_writer_that_is_dropped(self) -> None:
@@ -427,10 +426,10 @@ class Writing(unittest.TestCase):
 
     def test_an_error_that_is_ignored(self) -> None:
         file = Slow(most=1 << 20, fails={2: OSError("full")})
-        with self.assertRaisesRegex(OSError, "cannot be completed"):
-            with SealedWriter(cast(BinaryIO, file), KEY) as writer:
-                self.assertRaises(OSError, writer.write, bytes(PIECE))
-                self.assertRaisesRegex(OSError, "cannot be completed", writer.write, b"more")
+        ends = self.assertRaisesRegex(OSError, "cannot be completed")
+        with ends, SealedWriter(cast(BinaryIO, file), KEY) as writer:
+            self.assertRaises(OSError, writer.write, bytes(PIECE))
+            self.assertRaisesRegex(OSError, "cannot be completed", writer.write, b"more")
         self.assert_incomplete(file.file)
 
     def test_what_a_file_keeps_is_not_changed_later(self) -> None:

@@ -22,7 +22,6 @@ from vectors import CIPHERS
 
 KEY, NONCE = bytes(range(32)), bytes(32)
 CIPHER = Aegis256(KEY)
-# Of programs that import what these tests do.
 ENVIRONMENT = dict(os.environ, PYTHONPATH=os.pathsep.join(sys.path))
 
 # The address sanitizer keeps freed memory, and does not let it be read.
