@@ -104,8 +104,7 @@ static void check_stream(const struct line *line)
     uint8_t *out = filled(line->number, 0x55);
 
     HOLDS(hunkravy_stream(given.variant, out, line->number, KEYS(given)) == HUNKRAVY_OK);
-    HOLDS(line->answer[0].length == line->number);
-    HOLDS(are_equal(out, line->answer[0].at, line->number));
+    HOLDS(line->answer[0].length == line->number && are_equal(out, line->answer[0].at, line->number));
     free(out);
     drop(given);
 }
@@ -116,8 +115,7 @@ static void check_xor(const struct line *line)
     uint8_t *c = filled(given.length, 0x55);
 
     HOLDS(hunkravy_stream_xor(given.variant, c, given.text, given.length, KEYS(given)) == HUNKRAVY_OK);
-    HOLDS(are_equal(c, line->answer[0].at, given.length));
-    HOLDS(are_equal(given.text, line->text.at, given.length));
+    HOLDS(are_equal(c, line->answer[0].at, given.length) && are_equal(given.text, line->text.at, given.length));
     HOLDS(hunkravy_stream_xor_in_place(given.variant, given.text, given.length, KEYS(given)) == HUNKRAVY_OK);
     HOLDS(are_equal(given.text, c, given.length));
     free(c);
@@ -180,8 +178,7 @@ static void check_refused(uint32_t variant, size_t npublen, size_t klen, size_t 
         HOLDS(hunkravy_stream_xor_in_place(variant, bytes, 64, npub, npublen, k, klen) == code);
         HOLDS(hunkravy_stream_xor(variant, out, bytes, 64, npub, npublen, k, klen) == code);
     }
-    HOLDS(all_are(bytes, sizeof bytes, 0x55) && all_are(out, sizeof out, 0x66));
-    HOLDS(all_are(mac, maclen, 0x77));
+    HOLDS(all_are(bytes, sizeof bytes, 0x55) && all_are(out, sizeof out, 0x66) && all_are(mac, maclen, 0x77));
     free(k);
     free(npub);
     free(mac);
@@ -292,10 +289,8 @@ static void check_constants(void)
     HOLDS(HUNKRAVY_RECORD_KEY_BYTES == 32 && HUNKRAVY_RECORD_PREFIX_BYTES == 24);
     HOLDS(HUNKRAVY_RECORD_HEADER_BYTES == 4 && HUNKRAVY_RECORD_HEAD_BYTES == 5);
     HOLDS(HUNKRAVY_RECORD_BYTES == 37 && HUNKRAVY_RECORD_MAX_MESSAGE_BYTES == 16777216);
-    HOLDS(HUNKRAVY_RECORD_MAX_CONTEXT_BYTES == 65535);
-    HOLDS(HUNKRAVY_PAGE_ID_BYTES == 24 && HUNKRAVY_PAGE_TAG_BYTES == 32);
-    HOLDS(HUNKRAVY_PAGE_MAX_ADDED_BYTES == 64 && HUNKRAVY_PAGE_MIN_SIZE == 256);
-    HOLDS(HUNKRAVY_PAGE_MAX_SIZE == 65536);
+    HOLDS(HUNKRAVY_RECORD_MAX_CONTEXT_BYTES == 65535 && HUNKRAVY_PAGE_ID_BYTES == 24 && HUNKRAVY_PAGE_TAG_BYTES == 32);
+    HOLDS(HUNKRAVY_PAGE_MAX_ADDED_BYTES == 64 && HUNKRAVY_PAGE_MIN_SIZE == 256 && HUNKRAVY_PAGE_MAX_SIZE == 65536);
     HOLDS(HUNKRAVY_PAGE_HEADER_BLOCK_BYTES == 512 && HUNKRAVY_PAGE_FIRST == 4096);
     HOLDS(HUNKRAVY_PAGE_MAX_CONTENTS_BYTES == UINT64_C(1152921504606846976));
 }
@@ -306,8 +301,7 @@ static void check_version(void)
 
     snprintf(
         version, sizeof version, "%d.%d.%d", HUNKRAVY_VERSION_MAJOR, HUNKRAVY_VERSION_MINOR, HUNKRAVY_VERSION_PATCH);
-    HOLDS(strcmp(version, HUNKRAVY_VERSION) == 0);
-    HOLDS(strcmp(hunkravy_version(), HUNKRAVY_VERSION) == 0);
+    HOLDS(strcmp(version, HUNKRAVY_VERSION) == 0 && strcmp(hunkravy_version(), HUNKRAVY_VERSION) == 0);
 }
 
 int main(int count, char **arguments)

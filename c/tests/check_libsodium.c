@@ -92,11 +92,9 @@ static void check_seal(const struct cipher *cipher, const struct line *line)
     HOLDS(maclen == TAG_BYTES && memcmp(mac, tag, TAG_BYTES) == 0);
     HOLDS(memcmp(c, expected, length) == 0 && all_are(c + length, TAG_BYTES, 0x55));
     HOLDS(cipher->encrypt(c, &clen, m, length, AD, NULL, KEYS) == 0);
-    HOLDS(clen == length + TAG_BYTES && memcmp(c, expected, length) == 0);
-    HOLDS(memcmp(c + length, tag, TAG_BYTES) == 0);
+    HOLDS(clen == length + TAG_BYTES && memcmp(c, expected, length) == 0 && memcmp(c + length, tag, TAG_BYTES) == 0);
     /* From and to the same pointer. */
-    HOLDS(cipher->decrypt(c, &mlen, NULL, c, clen, AD, KEYS) == 0);
-    HOLDS(mlen == length && memcmp(c, m, length) == 0);
+    HOLDS(cipher->decrypt(c, &mlen, NULL, c, clen, AD, KEYS) == 0 && mlen == length && memcmp(c, m, length) == 0);
     HOLDS(cipher->encrypt(c, NULL, c, length, AD, NULL, KEYS) == 0);
     HOLDS(memcmp(c, expected, length) == 0 && memcmp(c + length, tag, TAG_BYTES) == 0);
     memcpy(c, m, length);
@@ -164,8 +162,7 @@ static void check_constants(void)
     HOLDS(crypto_aead_aegis128l_MESSAGEBYTES_MAX == (1ULL << 61) - 1);
     HOLDS(crypto_aead_aegis256_MESSAGEBYTES_MAX == (1ULL << 61) - 1);
     for (size_t i = 0; i < COUNT(CIPHERS); i++) {
-        HOLDS(CIPHERS[i].keybytes() == CIPHERS[i].key_bytes);
-        HOLDS(CIPHERS[i].npubbytes() == CIPHERS[i].key_bytes);
+        HOLDS(CIPHERS[i].keybytes() == CIPHERS[i].key_bytes && CIPHERS[i].npubbytes() == CIPHERS[i].key_bytes);
         HOLDS(CIPHERS[i].nsecbytes() == 0 && CIPHERS[i].abytes() == 32);
         HOLDS(CIPHERS[i].messagebytes_max() == (1ULL << 61) - 1);
     }
@@ -176,18 +173,14 @@ static void check_lengths(const struct cipher *cipher)
     uint8_t k[32] = {0}, npub[32] = {0}, c[TAG_BYTES], byte = 0x55;
     unsigned long long length = NO_LENGTH;
 
-    HOLDS(cipher->encrypt(c, &length, NULL, 0, NULL, 0, NULL, npub, k) == 0);
-    HOLDS(length == TAG_BYTES);
-    HOLDS(cipher->decrypt(NULL, &length, NULL, c, TAG_BYTES, NULL, 0, npub, k) == 0);
-    HOLDS(length == 0);
-    HOLDS(cipher->decrypt(&byte, &length, NULL, c, TAG_BYTES, NULL, 0, npub, k) == 0);
-    HOLDS(length == 0 && byte == 0x55);
+    HOLDS(cipher->encrypt(c, &length, NULL, 0, NULL, 0, NULL, npub, k) == 0 && length == TAG_BYTES);
+    HOLDS(cipher->decrypt(NULL, &length, NULL, c, TAG_BYTES, NULL, 0, npub, k) == 0 && length == 0);
+    HOLDS(cipher->decrypt(&byte, &length, NULL, c, TAG_BYTES, NULL, 0, npub, k) == 0 && length == 0 && byte == 0x55);
     /* Too long, and so refused before a byte is read. */
     length = NO_LENGTH;
     HOLDS(cipher->decrypt(&byte, &length, NULL, c, ~0ULL, NULL, 0, npub, k) == -1 && length == 0);
     HOLDS(cipher->decrypt_detached(&byte, NULL, c, 1, c, c, ~0ULL, npub, k) == -1);
-    HOLDS(cipher->decrypt_detached(&byte, NULL, c, ~0ULL, c, c, 1, npub, k) == -1);
-    HOLDS(byte == 0x55);
+    HOLDS(cipher->decrypt_detached(&byte, NULL, c, ~0ULL, c, c, 1, npub, k) == -1 && byte == 0x55);
 }
 
 /* Whether a message that is too long ends the program. It is encrypted in another process. */
@@ -216,8 +209,7 @@ static void check_too_long(const struct cipher *cipher)
 
     for (size_t i = 0; i < COUNT(lengths); i++) {
         for (int is_detached = 0; is_detached < 2; is_detached++) {
-            HOLDS(ends(cipher, is_detached, lengths[i], 0));
-            HOLDS(ends(cipher, is_detached, 0, lengths[i]));
+            HOLDS(ends(cipher, is_detached, lengths[i], 0) && ends(cipher, is_detached, 0, lengths[i]));
         }
     }
     HOLDS(!ends(cipher, 1, 20, 20));

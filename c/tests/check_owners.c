@@ -308,8 +308,7 @@ static void check_unread_folder(void)
 {
     make_file();
     HOLDS(!is_root() || (chown(path, 1000, 100) == 0 && chown(folder, 1000, 100) == 0));
-    HOLDS(chmod(folder, 0300) == 0 && in_child(commits_unread, NULL) == 0);
-    HOLDS(chmod(folder, 0700) == 0);
+    HOLDS(chmod(folder, 0300) == 0 && in_child(commits_unread, NULL) == 0 && chmod(folder, 0700) == 0);
 }
 
 /* ---- The table */

@@ -99,8 +99,7 @@ static void check_is_damaged(const struct layout *layout, uint64_t number, const
 {
     uint8_t *page = copied(bytes, length);
 
-    HOLDS(open_page(layout, page, length, number) == HUNKRAVY_INVALID_TAG);
-    HOLDS(all_are(page, length, 0xaa));
+    HOLDS(open_page(layout, page, length, number) == HUNKRAVY_INVALID_TAG && all_are(page, length, 0xaa));
     free(page);
 }
 
@@ -135,11 +134,9 @@ static void check_page(const struct variant *variant, uint32_t size, uint64_t nu
     memcpy(expected + layout.n, contents, size);
     write_clear(clear, &layout);
     seal_box(&layout, expected, length, clear, number, npub);
-    HOLDS(seal_page(&layout, page, length, number, npub) == HUNKRAVY_OK);
-    HOLDS(memcmp(page, expected, length) == 0);
+    HOLDS(seal_page(&layout, page, length, number, npub) == HUNKRAVY_OK && memcmp(page, expected, length) == 0);
     check_others(&layout, number, page, length);
-    HOLDS(open_page(&layout, page, length, number) == HUNKRAVY_OK);
-    HOLDS(memcmp(page, npub, layout.n) == 0);
+    HOLDS(open_page(&layout, page, length, number) == HUNKRAVY_OK && memcmp(page, npub, layout.n) == 0);
     HOLDS(memcmp(page + layout.n, contents, size) == 0);
     HOLDS(memcmp(page + length - TAG, expected + length - TAG, TAG) == 0);
     free(page);
@@ -169,8 +166,7 @@ static void check_has_header(const struct layout *layout, const uint8_t *block, 
 
     HOLDS(hunkravy_page_header_open(layout->variant, block, layout->k, layout->n, &size, id, &count, &length) ==
         HUNKRAVY_OK);
-    HOLDS(size == layout->size && memcmp(id, layout->id, sizeof id) == 0);
-    HOLDS(count == counter && length == contentslen);
+    HOLDS(size == layout->size && memcmp(id, layout->id, sizeof id) == 0 && count == counter && length == contentslen);
 }
 
 /* A header that no call writes: of another length of the contents, page size or variant. */
@@ -250,8 +246,7 @@ static void check_page_refused(const struct layout *layout, size_t length, uint6
     uint8_t *page = filled(length, 0x55);
 
     HOLDS(seal_page(layout, page, length, number, layout->k) == code);
-    HOLDS(open_page(layout, page, length, number) == code);
-    HOLDS(all_are(page, length, 0x55));
+    HOLDS(open_page(layout, page, length, number) == code && all_are(page, length, 0x55));
     free(page);
 }
 
@@ -261,8 +256,7 @@ static void check_header_refused(const struct variant *variant, uint32_t size, u
     uint8_t block[BLOCK];
 
     memset(block, 0x55, sizeof block);
-    HOLDS(seal_header(&layout, block, 3, contentslen, layout.k) == code);
-    HOLDS(all_are(block, sizeof block, 0x55));
+    HOLDS(seal_header(&layout, block, 3, contentslen, layout.k) == code && all_are(block, sizeof block, 0x55));
 }
 
 static void check_sizes(const struct variant *variant)
@@ -320,8 +314,7 @@ static void check_size(const struct variant *variant, uint32_t size)
 
 int main(void)
 {
-    HOLDS(HUNKRAVY_PAGE_MIN_SIZE == SIZES[0]);
-    HOLDS(HUNKRAVY_PAGE_MAX_SIZE == SIZES[COUNT(SIZES) - 1]);
+    HOLDS(HUNKRAVY_PAGE_MIN_SIZE == SIZES[0] && HUNKRAVY_PAGE_MAX_SIZE == SIZES[COUNT(SIZES) - 1]);
     HOLDS(HUNKRAVY_PAGE_MAX_ADDED_BYTES == HUNKRAVY_AEGIS256_NONCE_BYTES + TAG);
     /* Such a page lies in one block of a disk. */
     HOLDS(HUNKRAVY_PAGE_DEFAULT_SIZE(16) == 4048 && HUNKRAVY_PAGE_DEFAULT_SIZE(32) == 4032);

@@ -29,8 +29,7 @@ static struct keys keys_of(const struct line *line)
 {
     struct keys keys = {line->key.at, line->nonce.at, line->ad.at, line->ad.length};
 
-    HOLDS(line->key.length == HUNKRAVY_RECORD_KEY_BYTES);
-    HOLDS(line->nonce.length == HUNKRAVY_RECORD_PREFIX_BYTES);
+    HOLDS(line->key.length == HUNKRAVY_RECORD_KEY_BYTES && line->nonce.length == HUNKRAVY_RECORD_PREFIX_BYTES);
     if (keys.contextlen == 0) {
         keys.context = NULL;
     }
@@ -83,8 +82,7 @@ static void check_is_damaged(hunkravy_record_stream *st, const uint8_t *bytes, s
     int is_last = 7;
 
     HOLDS(hunkravy_record_open(st, record, length, &mlen, &is_last) == HUNKRAVY_INVALID_TAG);
-    HOLDS(all_are(record, length, 0xaa) && mlen == 7 && is_last == 7);
-    HOLDS(memcmp(st, &old, sizeof old) == 0);
+    HOLDS(all_are(record, length, 0xaa) && mlen == 7 && is_last == 7 && memcmp(st, &old, sizeof old) == 0);
     free(record);
 }
 
@@ -98,11 +96,9 @@ static void check_opens(hunkravy_record_stream *st, const uint8_t *bytes, const 
     change_a_bit(record, length + MORE);
     check_is_damaged(st, record, length + MORE);
     memcpy(record, bytes, length + MORE);
-    HOLDS(hunkravy_record_len(st, record, &recordlen) == HUNKRAVY_OK);
-    HOLDS(recordlen == length + MORE);
+    HOLDS(hunkravy_record_len(st, record, &recordlen) == HUNKRAVY_OK && recordlen == length + MORE);
     HOLDS(hunkravy_record_open(st, record, recordlen, &mlen, &is_last) == HUNKRAVY_OK);
-    HOLDS(mlen == length && is_last == bytes[0]);
-    HOLDS(are_equal(record + HEAD, message, length));
+    HOLDS(mlen == length && is_last == bytes[0] && are_equal(record + HEAD, message, length));
     HOLDS(is_zeros(st) == is_last);
     free(record);
 }
@@ -126,8 +122,7 @@ static void check_sealrec(const struct line *line)
         memcpy(record + HEAD, message, length);
         HOLDS((i + 1 < line->text.chunk_count ? hunkravy_record_seal(&sealer, record, length)
                                               : hunkravy_record_seal_last(&sealer, record, length)) == HUNKRAVY_OK);
-        HOLDS(at + length + MORE <= stream->length);
-        HOLDS(memcmp(record, expected, length + MORE) == 0);
+        HOLDS(at + length + MORE <= stream->length && memcmp(record, expected, length + MORE) == 0);
         HOLDS(begin_open_at(&alone, &keys, i + 1, before) == HUNKRAVY_OK);
         check_is_damaged(&alone, record, length + MORE);
         HOLDS(begin_open_at(&alone, &keys, i, before + 1) == HUNKRAVY_OK);
@@ -207,8 +202,7 @@ static void check_is_not_opening(hunkravy_record_stream st)
     HOLDS(hunkravy_record_len(&st, bytes, &length) == HUNKRAVY_WRONG_STATE);
     HOLDS(hunkravy_record_open(&st, bytes, 37, &length, &is_last) == HUNKRAVY_WRONG_STATE);
     HOLDS(hunkravy_record_open(&st, NULL, 0, &length, &is_last) == HUNKRAVY_WRONG_STATE);
-    HOLDS(all_are(bytes, sizeof bytes, 0) && length == 7 && is_last == 7);
-    HOLDS(memcmp(&st, &old, sizeof st) == 0);
+    HOLDS(all_are(bytes, sizeof bytes, 0) && length == 7 && is_last == 7 && memcmp(&st, &old, sizeof st) == 0);
 }
 
 /* A state that fails to begin is zeroed. Such states, and those of another role, are refused. */
@@ -241,8 +235,7 @@ static void check_states(const struct keys *keys)
     st = begun(keys);
     st.context = context;
     st.contextlen = sizeof context;
-    HOLDS(hunkravy_record_seal(&st, record, 1) == HUNKRAVY_CONTEXT_TOO_LONG);
-    HOLDS(all_are(record, sizeof record, 0x55));
+    HOLDS(hunkravy_record_seal(&st, record, 1) == HUNKRAVY_CONTEXT_TOO_LONG && all_are(record, sizeof record, 0x55));
 }
 
 /*
@@ -266,8 +259,7 @@ static void check_places(const struct keys *keys)
     st = begun(keys);
     st.opaque[NUMBER] = 1;
     st.opaque[BEFORE] = before;
-    HOLDS(hunkravy_record_seal(&st, bytes, 8) == HUNKRAVY_MESSAGE_TOO_LONG);
-    HOLDS(all_are(bytes, sizeof bytes, 0x55));
+    HOLDS(hunkravy_record_seal(&st, bytes, 8) == HUNKRAVY_MESSAGE_TOO_LONG && all_are(bytes, sizeof bytes, 0x55));
     HOLDS(hunkravy_record_seal(&st, bytes, 7) == HUNKRAVY_OK);
     HOLDS(hunkravy_record_seal(&st, bytes, 0) == HUNKRAVY_MESSAGE_TOO_LONG);
     HOLDS(begin_open_at(&st, keys, 1, before) == HUNKRAVY_OK);

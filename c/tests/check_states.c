@@ -38,8 +38,7 @@ static void check_seal(const struct line *line)
         size_t length = line->text.chunks[i];
         uint8_t *mc = copied(line->text.at + at, length), *c = filled(length, 0x55);
         HOLDS(hunkravy_state_encrypt(&copy, c, mc, length) == HUNKRAVY_OK);
-        HOLDS(are_equal(c, line->answer[0].at + at, length));
-        HOLDS(are_equal(mc, line->text.at + at, length));
+        HOLDS(are_equal(c, line->answer[0].at + at, length) && are_equal(mc, line->text.at + at, length));
         HOLDS(hunkravy_state_encrypt_in_place(&st, mc, length) == HUNKRAVY_OK);
         HOLDS(are_equal(mc, c, length) && is_same(&st, &copy));
         free(mc);
@@ -121,16 +120,14 @@ static void check_mac(const struct line *line)
         free(input);
     }
     old = st;
-    HOLDS(hunkravy_mac_final(&st, mac, maclen) == HUNKRAVY_OK);
-    HOLDS(are_equal(mac, line->answer[0].at, maclen));
+    HOLDS(hunkravy_mac_final(&st, mac, maclen) == HUNKRAVY_OK && are_equal(mac, line->answer[0].at, maclen));
     HOLDS(hunkravy_mac_final(&st, mac, 15) == HUNKRAVY_WRONG_TAG_LENGTH);
     HOLDS(hunkravy_mac_final(&st, NULL, 0) == HUNKRAVY_WRONG_TAG_LENGTH);
     HOLDS(hunkravy_mac_final_verify(&st, mac, 33) == HUNKRAVY_WRONG_TAG_LENGTH);
     HOLDS(hunkravy_mac_final_verify(&st, NULL, 0) == HUNKRAVY_WRONG_TAG_LENGTH);
     HOLDS(hunkravy_mac_final_verify(&st, mac, maclen) == HUNKRAVY_OK);
     change_a_bit(mac, maclen);
-    HOLDS(hunkravy_mac_final_verify(&st, mac, maclen) == HUNKRAVY_INVALID_TAG);
-    HOLDS(is_same(&st, &old));
+    HOLDS(hunkravy_mac_final_verify(&st, mac, maclen) == HUNKRAVY_INVALID_TAG && is_same(&st, &old));
 }
 
 static void check_line(const struct line *line)
@@ -299,8 +296,7 @@ static void check_words(uint32_t variant, size_t n)
     HOLDS(hunkravy_mac_init(variant, &st, k, n, k, n) == HUNKRAVY_OK);
     st.opaque[DATA_BYTES] = 1;
     HOLDS(hunkravy_mac_final(&st, k, 16) == HUNKRAVY_WRONG_STATE);
-    HOLDS(hunkravy_mac_final_verify(&st, k, 16) == HUNKRAVY_WRONG_STATE);
-    HOLDS(all_are(k, sizeof k, 0));
+    HOLDS(hunkravy_mac_final_verify(&st, k, 16) == HUNKRAVY_WRONG_STATE && all_are(k, sizeof k, 0));
 }
 
 /* A message that is as long as it may be takes no byte more. */

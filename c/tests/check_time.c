@@ -118,9 +118,7 @@ static void check_macs(const struct message *this)
     RETURNS(HUNKRAVY_INVALID_TAG, hunkravy_mac_final_verify(&st, mac, this->maclen));
 }
 
-/*
- * Two records, whatever the variant. The context is the message, whose length decides how much of the stack it takes.
- */
+/* Two records, whatever the variant. The message is their context too: its length decides how much stack that takes. */
 static void check_records(const struct message *this)
 {
     size_t length = this->length, recordlen = length + HUNKRAVY_RECORD_BYTES, mlen = 0;

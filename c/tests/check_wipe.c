@@ -126,13 +126,10 @@ int main(void)
 {
     uint8_t bytes[3] = {1, 2, 3};
 
-    HOLDS(is_zeros_after(wiped_key, 32));
-    HOLDS(is_zeros_after(wiped_state, sizeof(hunkravy_state)));
-    HOLDS(is_zeros_after(zeroed_key, 32));
-    HOLDS(is_zeros_after(zeroed_state, sizeof(hunkravy_state)));
+    HOLDS(is_zeros_after(wiped_key, 32) && is_zeros_after(wiped_state, sizeof(hunkravy_state)));
+    HOLDS(is_zeros_after(zeroed_key, 32) && is_zeros_after(zeroed_state, sizeof(hunkravy_state)));
     HOLDS(!leaves_state(verify) && leaves_state(keep_state));
-    HOLDS(!is_zeros_after(set_key, 32));
-    HOLDS(!is_zeros_after(set_state, sizeof(hunkravy_state)));
+    HOLDS(!is_zeros_after(set_key, 32) && !is_zeros_after(set_state, sizeof(hunkravy_state)));
     hunkravy_wipe(bytes + 1, 1);
     HOLDS(bytes[0] == 1 && bytes[1] == 0 && bytes[2] == 3);
     hunkravy_wipe(NULL, 0);

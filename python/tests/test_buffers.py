@@ -77,18 +77,14 @@ class Buffers(unittest.TestCase):
         ]
         for nonce, data, header in wrong:
             buffer = bytearray(b"a" * 41)
-            with self.assertRaises((TypeError, ValueError)):
-                CIPHER.encrypt_into(nonce, data, header, buffer)
+            self.assertRaises((TypeError, ValueError), CIPHER.encrypt_into, nonce, data, header, buffer)
             data = bytes(73 if len(data) == 9 else 32 + len(data)) if isinstance(data, bytes) else data
-            with self.assertRaises((TypeError, ValueError)):
-                CIPHER.decrypt_into(nonce, data, header, buffer)
+            self.assertRaises((TypeError, ValueError), CIPHER.decrypt_into, nonce, data, header, buffer)
             self.assertEqual(buffer, b"a" * 41)
         buffer = bytearray(b"a" * 41)
-        with self.assertRaises(hunkravy.InvalidTag):
-            CIPHER.decrypt_into(NONCE, bytes(31), None, buffer)
+        self.assertRaises(hunkravy.InvalidTag, CIPHER.decrypt_into, NONCE, bytes(31), None, buffer)
         self.assertEqual(buffer, b"a" * 41)
-        with self.assertRaises(hunkravy.InvalidTag):
-            CIPHER.decrypt_into(NONCE, bytes(73), None, buffer)
+        self.assertRaises(hunkravy.InvalidTag, CIPHER.decrypt_into, NONCE, bytes(73), None, buffer)
         self.assertEqual(buffer, b"\xaa" * 41)
 
     def test_buffers_are_held_and_given_back(self) -> None:
@@ -97,17 +93,13 @@ class Buffers(unittest.TestCase):
         cipher = Aegis256(key)
         cipher.encrypt_into(nonce, data, header, output)
         cipher.decrypt_into(nonce, output, header, opened)
-        with self.assertRaises(hunkravy.InvalidTag):
-            cipher.decrypt(nonce, output, data)
-        with self.assertRaises(ValueError):
-            cipher.encrypt_into(nonce, data, header, opened)
-        with self.assertRaises(TypeError):
-            cipher.encrypt_into(nonce, data, header, b"")  # type: ignore[arg-type]
+        self.assertRaises(hunkravy.InvalidTag, cipher.decrypt, nonce, output, data)
+        self.assertRaises(ValueError, cipher.encrypt_into, nonce, data, header, opened)
+        self.assertRaises(TypeError, cipher.encrypt_into, nonce, data, header, b"")
         cipher.encryptor(nonce, header).update(data)
         cipher.decryptor(nonce, header).update(data)
         mac = Aegis256Mac(key, data, nonce=nonce)
-        with self.assertRaises(hunkravy.InvalidTag):
-            mac.verify(nonce)
+        self.assertRaises(hunkravy.InvalidTag, mac.verify, nonce)
         for buffer in buffers:
             # Raises BufferError while anybody holds it.
             buffer.append(0)
@@ -130,8 +122,7 @@ class Errors(unittest.TestCase):
                 ("output buffer", lambda: CIPHER.encrypt_into(NONCE, b"", None, bytearray(wrong))),
             ]
             for name, call in calls:
-                with self.assertRaisesRegex(ValueError, f"^the {name} must have 32 bytes, not {len(wrong)}$"):
-                    call()
+                self.assertRaisesRegex(ValueError, f"^the {name} must have 32 bytes, not {len(wrong)}$", call)
 
     def test_lengths_of_tags(self) -> None:
         for length in range(-1, 70):
@@ -143,26 +134,19 @@ class Errors(unittest.TestCase):
                 if length in (16, 32):
                     make()
                 else:
-                    with self.assertRaisesRegex(ValueError, f"^tag_length must be 16 or 32, not {length}$"):
-                        make()
+                    self.assertRaisesRegex(ValueError, f"^tag_length must be 16 or 32, not {length}$", make)
         for wrong in ("16", 16.0, None, 1 << 80):
-            with self.assertRaises((TypeError, OverflowError)):
-                Aegis256(KEY, wrong)  # type: ignore[arg-type]
+            self.assertRaises((TypeError, OverflowError), Aegis256, KEY, wrong)
 
     def test_no_tag(self) -> None:
         for length in (0, 1, 31):
-            with self.assertRaises(hunkravy.InvalidTag):
-                CIPHER.decrypt(NONCE, bytes(length))
+            self.assertRaises(hunkravy.InvalidTag, CIPHER.decrypt, NONCE, bytes(length))
 
     def test_error_messages(self) -> None:
-        with self.assertRaisesRegex(hunkravy.InvalidTag, "invalid tag"):
-            CIPHER.decrypt(NONCE, bytes(40))
-        with self.assertRaisesRegex(hunkravy.InvalidTag, "invalid tag"):
-            Aegis256Mac(KEY).verify(bytes(32))
-        with self.assertRaisesRegex(TypeError, "^use one of the six variants, such as Aegis256$"):
-            hunkravy.Cipher(KEY)
-        with self.assertRaisesRegex(TypeError, "^use one of the six variants, such as Aegis256$"):
-            hunkravy.Mac(b"")
+        self.assertRaisesRegex(hunkravy.InvalidTag, "invalid tag", CIPHER.decrypt, NONCE, bytes(40))
+        self.assertRaisesRegex(hunkravy.InvalidTag, "invalid tag", Aegis256Mac(KEY).verify, bytes(32))
+        self.assertRaisesRegex(TypeError, "^use one of the six variants, such as Aegis256$", hunkravy.Cipher, KEY)
+        self.assertRaisesRegex(TypeError, "^use one of the six variants, such as Aegis256$", hunkravy.Mac, b"")
 
     def test_wrong_types(self) -> None:
         wrong: Any
@@ -178,11 +162,9 @@ class Errors(unittest.TestCase):
                 lambda: CIPHER.keystream(wrong, 5),
             ]
             for call in calls:
-                with self.assertRaises((TypeError, BufferError)):
-                    call()
+                self.assertRaises((TypeError, BufferError), call)
         for output in (bytes(32), memoryview(bytearray(32)).toreadonly(), memoryview(bytearray(64))[::2], None, 5):
-            with self.assertRaises((TypeError, BufferError)):
-                CIPHER.encrypt_into(NONCE, b"", None, output)  # type: ignore[arg-type]
+            self.assertRaises((TypeError, BufferError), CIPHER.encrypt_into, NONCE, b"", None, output)
 
     def test_lengths_past_limits(self) -> None:
         """Buffers that claim lengths which no memory has. Nothing of them is read."""
@@ -205,11 +187,9 @@ class Errors(unittest.TestCase):
             lambda: CIPHER.keystream(NONCE, -1),
         ]
         for call in calls:
-            with self.assertRaises((ValueError, MemoryError, OverflowError)):
-                call()
+            self.assertRaises((ValueError, MemoryError, OverflowError), call)
         for wrong in (b"abc", [1, 2], "3", 2.0, None):
-            with self.assertRaises(TypeError):
-                CIPHER.keystream(NONCE, wrong)  # type: ignore[arg-type]
+            self.assertRaises(TypeError, CIPHER.keystream, NONCE, wrong)
 
     def test_each_changed_bit(self) -> None:
         for tag_length in (16, 32):
@@ -218,12 +198,10 @@ class Errors(unittest.TestCase):
             for bit in range(8 * len(sealed)):
                 forged = bytearray(sealed)
                 forged[bit // 8] ^= 1 << bit % 8
-                with self.assertRaises(hunkravy.InvalidTag):
-                    cipher.decrypt(NONCE, forged, b"header")
+                self.assertRaises(hunkravy.InvalidTag, cipher.decrypt, NONCE, forged, b"header")
                 decryptor = cipher.decryptor(NONCE, b"header")
                 decryptor.update(forged[:9])
-                with self.assertRaises(hunkravy.InvalidTag):
-                    decryptor.finalize(forged[9:])
+                self.assertRaises(hunkravy.InvalidTag, decryptor.finalize, forged[9:])
 
     def test_each_changed_bit_of_a_mac(self) -> None:
         for tag_length in (16, 32):
@@ -231,14 +209,12 @@ class Errors(unittest.TestCase):
             for bit in range(8 * tag_length):
                 forged = bytearray(mac.digest())
                 forged[bit // 8] ^= 1 << bit % 8
-                with self.assertRaises(hunkravy.InvalidTag):
-                    mac.verify(forged)
+                self.assertRaises(hunkravy.InvalidTag, mac.verify, forged)
 
     def test_after_the_end(self) -> None:
         encryptor, decryptor = CIPHER.encryptor(NONCE), CIPHER.decryptor(NONCE)
         encryptor.finalize()
-        with self.assertRaises(hunkravy.InvalidTag):
-            decryptor.finalize(bytes(32))
+        self.assertRaises(hunkravy.InvalidTag, decryptor.finalize, bytes(32))
         calls: list[Callable[[], object]] = [
             encryptor.finalize,
             lambda: encryptor.update(b""),
@@ -247,8 +223,7 @@ class Errors(unittest.TestCase):
             lambda: decryptor.update(b"more"),
         ]
         for call in calls:
-            with self.assertRaisesRegex(RuntimeError, "^this message has already ended$"):
-                call()
+            self.assertRaisesRegex(RuntimeError, "^this message has already ended$", call)
 
     def test_an_error_takes_nothing_in(self) -> None:
         """After a wrong argument the message goes on."""
@@ -256,16 +231,14 @@ class Errors(unittest.TestCase):
         sealed = b""
         for chunk in (b"a ", b"message"):
             for update in (encryptor.update, decryptor.update, mac.update):
-                with self.assertRaises(TypeError):
-                    update("text")  # type: ignore[arg-type]
+                self.assertRaises(TypeError, update, "text")
             sealed += encryptor.update(chunk)
             decryptor.update(sealed[-len(chunk) :])
             mac.update(chunk)
         tag = encryptor.finalize()
         self.assertEqual(sealed + tag, CIPHER.encrypt(NONCE, b"a message"))
         for wrong in (bytes(16), b""):
-            with self.assertRaises(ValueError):
-                decryptor.finalize(wrong)
+            self.assertRaises(ValueError, decryptor.finalize, wrong)
         self.assertEqual(decryptor.finalize(tag), b"a message")
         mac.verify(Aegis256Mac(KEY, b"a message").digest())
 

@@ -9,6 +9,7 @@ from typing import Callable, Iterator
 
 import vectors
 from hunkravy import RandomAccessError, RandomAccessFile, RecordError, RecordOpener, SealedFileError, SealedReader
+from test_records import read
 
 CORPUS = pathlib.Path(__file__).parents[2] / "testkit" / "corpus"
 Case = dict[str, str]
@@ -31,16 +32,11 @@ def named(cause: str, number: object) -> str:
 
 def opened_records(case: Case) -> list[bytes] | str:
     file = io.BytesIO(joined(case["stream"]))
-    messages = []
     try:
         opener = RecordOpener(joined(case["key"]), joined(case["prefix"]), joined(case["context"]), file.read(4))
-        while not opener.has_ended:
-            head = file.read(5)
-            messages.append(opener.open(head + file.read(opener.record_length(head) - 5)))
-        opener.finish(file.read())
+        return read(opener, file)
     except RecordError as error:
         return named(error.cause, error.record)
-    return messages
 
 
 def opened_file(case: Case) -> list[bytes] | str:

@@ -75,6 +75,18 @@ class Unreliable(io.BytesIO):
         return super().seek(offset, whence)
 
 
+class Counted(io.BytesIO):
+    """A file that notes the size that each read asks for."""
+
+    def __init__(self, data: bytes) -> None:
+        super().__init__(data)
+        self.sizes: list[Optional[int]] = []
+
+    def read(self, size: Optional[int] = -1) -> bytes:
+        self.sizes.append(size)
+        return super().read(size)
+
+
 class Slow(io.RawIOBase):
     """A file that reads and writes only some bytes at a time, and fails or has nothing at chosen calls."""
 
@@ -240,20 +252,13 @@ class Damaged(unittest.TestCase):
     def test_a_record_that_announces_much(self) -> None:
         """No more memory is taken than for what comes."""
         data = (DATA / "records.sealed").read_bytes()[:28] + b"\0" + (1 << 24).to_bytes(4, "little") + bytes(200_000)
-        sizes = []
-
-        class Counts(io.BytesIO):
-            def read(self, size: Optional[int] = -1) -> bytes:
-                sizes.append(size)
-                return super().read(size)
-
+        file = Counted(data)
         tracemalloc.start()
-        reader = SealedReader(Counts(data), KEY)
-        with self.assertRaises(SealedFileError):
-            reader.read(1)
+        reader = SealedReader(file, KEY)
+        self.assertRaises(SealedFileError, reader.read, 1)
         self.assertLess(tracemalloc.get_traced_memory()[1], 1 << 20)
         tracemalloc.stop()
-        self.assertLess(max(cast("list[int]", sizes)), 1 << 18)
+        self.assertLess(max(cast("list[int]", file.sizes)), 1 << 18)
 
 
 class Writing(unittest.TestCase):
@@ -291,14 +296,12 @@ class Writing(unittest.TestCase):
         writer.write(bytes(100_000))
         writer.flush()
         self.assertEqual(len(file.getvalue()), 28 + 37 + PIECE)
-        with self.assertRaisesRegex(SealedFileError, "^the file is truncated$"):
-            SealedReader(io.BytesIO(file.getvalue()), KEY).read()
+        self.assert_incomplete(file)
         writer.close()
         writer.close()
         self.assertEqual(SealedReader(io.BytesIO(file.getvalue()), KEY).read(), bytes(100_000))
         for call in (lambda: writer.write(b"more"), writer.tell, writer.writable, writer.__enter__):
-            with self.assertRaises(ValueError):
-                call()
+            self.assertRaises(ValueError, call)
 
     def test_buffers_of_the_file_are_written(self) -> None:
         with tempfile.TemporaryDirectory() as folder, open(os.path.join(folder, "sealed"), "wb") as file:
@@ -308,8 +311,8 @@ class Writing(unittest.TestCase):
                 self.assertEqual(SealedReader(written, KEY).read(), b"contents")
 
     def assert_incomplete(self, file: io.BytesIO) -> None:
-        with self.assertRaisesRegex(SealedFileError, "^the file is truncated$"):
-            SealedReader(io.BytesIO(file.getvalue()), KEY).read()
+        reader = SealedReader(io.BytesIO(file.getvalue()), KEY)
+        self.assertRaisesRegex(SealedFileError, "^the file is truncated$", reader.read)
 
     def test_an_exception_in_a_block(self) -> None:
         for contents in (b"", b"contents", bytes(2 * PIECE)):
@@ -329,10 +332,9 @@ class Writing(unittest.TestCase):
             text.write("contents")
         self.assertEqual(SealedReader(io.BytesIO(file.getvalue()), KEY).read(), b"contents")
         file = io.BytesIO()
-        with self.assertRaises(KeyError):
-            with SealedWriter(file, KEY) as writer, io.BufferedWriter(writer) as buffered:
-                buffered.write(b"contents")
-                raise KeyError
+        with self.assertRaises(KeyError), SealedWriter(file, KEY) as writer, io.BufferedWriter(writer) as buffered:
+            buffered.write(b"contents")
+            raise KeyError
         self.assert_incomplete(file)
 
     def test_a_writer_that_is_dropped(self) -> None:
@@ -377,8 +379,7 @@ class Writing(unittest.TestCase):
         writer = SealedWriter(file, KEY)
         with mock.patch.object(writer, "_turn", turn), self.assertRaises(KeyboardInterrupt):
             writer.write(b"once")
-        with self.assertRaisesRegex(OSError, "cannot be completed"):
-            writer.close()
+        self.assertRaisesRegex(OSError, "cannot be completed", writer.close)
 
     def test_a_file_that_does_not_block(self) -> None:
         file = Slow(most=1000, fails={4: None})
@@ -386,8 +387,7 @@ class Writing(unittest.TestCase):
         with self.assertRaises(BlockingIOError) as raised:
             writer.write(bytes(PIECE))
         self.assertEqual((raised.exception.errno, raised.exception.characters_written), (errno.EAGAIN, 0))
-        with self.assertRaisesRegex(OSError, "cannot be completed"):
-            writer.close()
+        self.assertRaisesRegex(OSError, "cannot be completed", writer.close)
 
     def test_buffers_of_no_element(self) -> None:
         file = io.BytesIO()
@@ -426,12 +426,10 @@ class Writing(unittest.TestCase):
 
     def test_an_error_that_is_ignored(self) -> None:
         file = Slow(most=1 << 20, fails={2: OSError("full")})
-        with self.assertRaisesRegex(OSError, "cannot be completed"):
-            with SealedWriter(cast(BinaryIO, file), KEY) as writer:
-                with self.assertRaises(OSError):
-                    writer.write(bytes(PIECE))
-                with self.assertRaisesRegex(OSError, "cannot be completed"):
-                    writer.write(b"more")
+        ends = self.assertRaisesRegex(OSError, "cannot be completed")
+        with ends, SealedWriter(cast(BinaryIO, file), KEY) as writer:
+            self.assertRaises(OSError, writer.write, bytes(PIECE))
+            self.assertRaisesRegex(OSError, "cannot be completed", writer.write, b"more")
         self.assert_incomplete(file.file)
 
     def test_what_a_file_keeps_is_not_changed_later(self) -> None:
@@ -556,10 +554,8 @@ class Reading(unittest.TestCase):
                     self.one_call(reader, plain, numbers)
             except OSError:
                 ended += 1
-                with self.assertRaises(OSError):
-                    reader.seek(0)
-                with self.assertRaises(OSError):
-                    reader.read(1)
+                self.assertRaises(OSError, reader.seek, 0)
+                self.assertRaises(OSError, reader.read, 1)
         self.assertGreater(ended, 10)
 
     def one_call(self, reader: SealedReader, plain: io.BytesIO, numbers: random.Random) -> None:
@@ -615,27 +611,19 @@ class Reading(unittest.TestCase):
         reader = SealedReader(open_records(), KEY)
         reader.seek(12)
         for offset, whence, error in ((-1, 0, OSError), (-13, 1, OSError), (-23, 2, OSError), (0, 3, ValueError)):
-            with self.assertRaises(error):
-                reader.seek(offset, whence)
+            self.assertRaises(error, reader.seek, offset, whence)
             self.assertEqual(reader.tell(), 12)
         self.assertEqual(reader.read(2), b"cd")
-        with self.assertRaises(io.UnsupportedOperation):
-            SealedReader(slow((DATA / "records.sealed").read_bytes()), KEY).seek(0)
+        self.assertRaises(io.UnsupportedOperation, SealedReader(slow((DATA / "records.sealed").read_bytes()), KEY).seek, 0)
 
     def test_a_seek_reads_one_record(self) -> None:
         """The records before it are not read if each has a whole piece."""
-        reads: list[Optional[int]] = []
-
-        class Counts(io.BytesIO):
-            def read(self, size: Optional[int] = -1) -> bytes:
-                reads.append(size)
-                return super().read(size)
-
-        reader = SealedReader(Counts(sealed(bytes(40 * PIECE + 9))), KEY)
+        file = Counted(sealed(bytes(40 * PIECE + 9)))
+        reader = SealedReader(file, KEY)
         for place in 39 * PIECE, 3 * PIECE, 40 * PIECE + 8:
-            reads.clear()
+            file.sizes.clear()
             self.assertEqual(reader.seek(place), place)
-            self.assertLess(len(reads), 4)
+            self.assertLess(len(file.sizes), 4)
 
     def test_an_end_that_is_not_verified(self) -> None:
         """The end is that of a verified record, which nothing follows."""
@@ -652,8 +640,7 @@ class Reading(unittest.TestCase):
         reader.seek(10)
         self.assertEqual(reader.read(), Damaged.contents[10:])
         for call in (lambda: reader.seek(9), lambda: reader.seek(10), lambda: reader.read(1), reader.readall):
-            with self.assertRaisesRegex(SealedFileError, "^record 0 is damaged"):
-                call()
+            self.assertRaisesRegex(SealedFileError, "^record 0 is damaged", call)
 
     def test_files_that_fail(self) -> None:
         """After an exception of the file beneath, or of a signal handler, nothing is read any more."""
@@ -661,11 +648,9 @@ class Reading(unittest.TestCase):
         for number in (3, 4, 5, 6, 20):
             for error in (OSError("broken"), TimeoutError("broken"), KeyboardInterrupt()):
                 reader = SealedReader(slow(data, 5000, {number: error}), KEY)
-                with self.assertRaises(type(error)):
-                    reader.readinto(bytearray(100_000))
+                self.assertRaises(type(error), reader.readinto, bytearray(100_000))
                 for call in (lambda: reader.read(1), lambda: reader.seek(0), reader.readall):
-                    with self.assertRaises((OSError, io.UnsupportedOperation)):
-                        call()
+                    self.assertRaises((OSError, io.UnsupportedOperation), call)
 
     def test_a_file_that_calls_its_reader(self) -> None:
         class Calling(io.BytesIO):
@@ -678,16 +663,14 @@ class Reading(unittest.TestCase):
 
         file = Calling(sealed(b"contents"))
         file.reader = SealedReader(file, KEY)
-        with self.assertRaisesRegex(RuntimeError, "^reentrant call$"):
-            file.reader.read(1)
+        self.assertRaisesRegex(RuntimeError, "^reentrant call$", file.reader.read, 1)
         file.reader = None
 
     def test_zeros_are_not_skipped(self) -> None:
         """A hole in a file looks like records of no bytes, which are verified."""
         data = sealed(bytes(PIECE + 1))[: 28 + 37 + PIECE] + bytes(1 << 20)
         reader = SealedReader(io.BytesIO(data), KEY)
-        with self.assertRaisesRegex(SealedFileError, "^record 1 is damaged"):
-            reader.seek(0, os.SEEK_END)
+        self.assertRaisesRegex(SealedFileError, "^record 1 is damaged", reader.seek, 0, os.SEEK_END)
 
     def test_files_that_do_not_block(self) -> None:
         contents = os.urandom(100_000)
@@ -721,10 +704,8 @@ class Reading(unittest.TestCase):
         file = open_records()
         with SealedReader(file, KEY) as reader:
             pass
-        calls = (lambda: reader.read(1), lambda: reader.seek(0), reader.tell, reader.readable, reader.seekable)
-        for call in calls:
-            with self.assertRaises(ValueError):
-                call()
+        for call in (lambda: reader.read(1), lambda: reader.seek(0), reader.tell, reader.readable, reader.seekable):
+            self.assertRaises(ValueError, call)
         reader.close()
         self.assertFalse(file.closed)
 
@@ -738,12 +719,10 @@ class Reading(unittest.TestCase):
 
     def test_wrong_arguments(self) -> None:
         for key in (b"", bytes(31), bytes(33)):
-            with self.assertRaisesRegex(ValueError, "^the key must have 32 bytes, not"):
-                SealedReader(open_records(), key)
+            self.assertRaisesRegex(ValueError, "^the key must have 32 bytes, not", SealedReader, open_records(), key)
             with warnings.catch_warnings(), self.assertRaisesRegex(ValueError, "^the key must have 32 bytes, not"):
                 SealedWriter(io.BytesIO(), key)
-        with self.assertRaises(TypeError):
-            SealedReader(cast(BinaryIO, io.StringIO("text" * 100)), KEY)
+        self.assertRaises(TypeError, SealedReader, cast(BinaryIO, io.StringIO("text" * 100)), KEY)
 
 
 def open_records() -> BinaryIO:
@@ -772,8 +751,7 @@ class Keys(unittest.TestCase):
             # It is not read whole.
             os.truncate(path, 1 << 42)
             self.assert_rejected(path)
-            with self.assertRaises(FileNotFoundError):
-                read_key(str(path) + "-missing")
+            self.assertRaises(FileNotFoundError, read_key, str(path) + "-missing")
 
     def assert_rejected(self, path: pathlib.Path) -> None:
         with self.assertRaisesRegex(ValueError, "is not a key file: expected 64 hexadecimal digits$") as raised:

@@ -94,8 +94,7 @@ class Macs(unittest.TestCase):
                 mac.copy().verify(bytes.fromhex(answer))
                 forged = bytearray.fromhex(answer)
                 forged[-1] ^= 1
-                with self.assertRaises(hunkravy.InvalidTag):
-                    mac.verify(forged)
+                self.assertRaises(hunkravy.InvalidTag, mac.verify, forged)
             count += 1
         self.assertGreater(count, 50)
 

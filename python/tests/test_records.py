@@ -99,8 +99,7 @@ class Streams(unittest.TestCase):
             self.assertRaises(RuntimeError, seal, b"more")
         opener = RecordOpener(KEY, PREFIX, b"", sealer.header)
         opener.open(record)
-        with self.assertRaisesRegex(RecordError, "^bytes follow the last record$"):
-            opener.open(record)
+        self.assertRaisesRegex(RecordError, "^bytes follow the last record$", opener.open, record)
 
     def test_wrong_arguments(self) -> None:
         """They change nothing."""
@@ -114,8 +113,7 @@ class Streams(unittest.TestCase):
         record = sealer.seal(array.array("I", [7]))
         wrong: list[Any] = [record + b"?", "text", None]
         for data in wrong:
-            with self.assertRaises((TypeError, ValueError)):
-                opener.open(data)
+            self.assertRaises((TypeError, ValueError), opener.open, data)
         self.assertEqual(opener.open(record), bytes(array.array("I", [7])))
 
     def test_threads(self) -> None:

@@ -22,6 +22,7 @@ from vectors import CIPHERS
 
 KEY, NONCE = bytes(range(32)), bytes(32)
 CIPHER = Aegis256(KEY)
+ENVIRONMENT = dict(os.environ, PYTHONPATH=os.pathsep.join(sys.path))
 
 # The address sanitizer keeps freed memory, and does not let it be read.
 not_sanitized = unittest.skipIf("HUNKRAVY_SANITIZED" in os.environ, "freed memory under the address sanitizer")
@@ -63,8 +64,7 @@ class Lies(unittest.TestCase):
         ]
         for call in calls:
             for wrong in (Lying(), Lying(bytes(31)), Long(), Long(bytes(33))):
-                with self.assertRaises(ValueError):
-                    call(wrong)
+                self.assertRaises(ValueError, call, wrong)
 
     def test_messages_and_associated_data(self) -> None:
         sealed = CIPHER.encrypt(NONCE, b"a message", b"header")
@@ -90,8 +90,7 @@ class Lies(unittest.TestCase):
             KEY_BYTES = 3
             NONCE_BYTES = 3
 
-        with self.assertRaises(ValueError):
-            Other(b"key")
+        self.assertRaises(ValueError, Other, b"key")
 
 
 class Begun(unittest.TestCase):
@@ -100,10 +99,8 @@ class Begun(unittest.TestCase):
         kinds: list[Any] = [Encryptor, Decryptor]
         for kind in kinds:
             for arguments in ((), (5, 16), (short, 16), (CIPHER._cipher, 16)):
-                with self.assertRaises(TypeError):
-                    kind(*arguments)
-            with self.assertRaises(AttributeError):
-                kind.__new__(kind).update(b"a chunk")
+                self.assertRaises(TypeError, kind, *arguments)
+            self.assertRaises(AttributeError, kind.__new__(kind).update, b"a chunk")
         self.assertEqual(short, bytes(range(5)))
 
     def test_native_objects(self) -> None:
@@ -116,8 +113,7 @@ class Begun(unittest.TestCase):
             lambda: setattr(state, "__new__", lambda *_: None),
         ]
         for make in makers:
-            with self.assertRaises((TypeError, AttributeError)):
-                make()
+            self.assertRaises((TypeError, AttributeError), make)
 
     def test_the_stub(self) -> None:
         """It has the names that the native module has."""
@@ -134,8 +130,7 @@ class Begun(unittest.TestCase):
         own, invalid_tag = _native.State, _native.InvalidTag
         with mock.patch.object(_native, "State", int), mock.patch.object(_native, "InvalidTag", KeyError):
             self.assertIs(type(CIPHER.encryptor(NONCE)._state), own)
-            with self.assertRaises(invalid_tag):
-                CIPHER.decrypt(NONCE, bytes(40))
+            self.assertRaises(invalid_tag, CIPHER.decrypt, NONCE, bytes(40))
 
     def test_roles(self) -> None:
         """The library refuses a state in another role."""
@@ -150,8 +145,7 @@ class Begun(unittest.TestCase):
             lambda: mac.decrypt(b""),
         ]
         for call in calls:
-            with self.assertRaises(RuntimeError):
-                call()
+            self.assertRaises(RuntimeError, call)
 
     def test_record_streams(self) -> None:
         """Records out of turn or of no length that records have."""
@@ -166,19 +160,15 @@ class Begun(unittest.TestCase):
             (TypeError, lambda: records.seal(bytes(40), True)),
         ]
         for error, call in calls:
-            with self.assertRaises(error):
-                call()
+            self.assertRaises(error, call)
         records.begin()
         for length in (0, 36):
-            with self.assertRaises(ValueError):
-                records.seal(bytearray(length), True)
+            self.assertRaises(ValueError, records.seal, bytearray(length), True)
         record = bytearray(37)
         records.seal(record, True)
-        with self.assertRaises(RuntimeError):
-            records.seal(bytearray(40), False)
+        self.assertRaises(RuntimeError, records.seal, bytearray(40), False)
         records.begin(0, 0)
-        with self.assertRaises(ValueError):
-            records.open(bytearray(36))
+        self.assertRaises(ValueError, records.open, bytearray(36))
         self.assertIs(records.open(record), True)
 
     def test_secrets_are_compared_by_the_library(self) -> None:
@@ -213,8 +203,7 @@ class Copies(unittest.TestCase):
 
     def test_the_length_of_a_mac_stays(self) -> None:
         mac = Aegis256Mac(bytes(32), tag_length=16)
-        with self.assertRaises(AttributeError):
-            setattr(mac, "digest_size", 32)
+        self.assertRaises(AttributeError, setattr, mac, "digest_size", 32)
         self.assertEqual((mac.digest_size, len(mac.digest())), (16, 16))
         self.assertEqual(mac.copy().digest_size, 16)
 
@@ -243,16 +232,13 @@ class Copies(unittest.TestCase):
         secrets.append(writer)
         for secret in secrets:
             for copied in copiers:
-                with self.assertRaises(TypeError):
-                    copied(secret)
+                self.assertRaises(TypeError, copied, secret)
         secrets += [mac(bytes(mac.KEY_BYTES)) for _, mac in CIPHERS.values()]
         self.assertEqual(len(secrets), 16)
         for secret in secrets:
             for protocol in range(pickle.HIGHEST_PROTOCOL + 1):
-                with self.assertRaises(TypeError):
-                    pickle.dumps(secret, protocol)
-            with self.assertRaises(TypeError):
-                secret.__getstate__()
+                self.assertRaises(TypeError, pickle.dumps, secret, protocol)
+            self.assertRaises(TypeError, secret.__getstate__)
 
 
 class Drawn(unittest.TestCase):
@@ -285,8 +271,7 @@ for is_child in (False, True, True):
         os.wait() if os.getpid() == parent else os._exit(0)
     parent = os.getpid()
 """
-        environment = dict(os.environ, PYTHONPATH=os.pathsep.join(sys.path))
-        printed = subprocess.run([sys.executable, "-c", program], env=environment, check=True, capture_output=True)
+        printed = subprocess.run([sys.executable, "-c", program], env=ENVIRONMENT, check=True, capture_output=True)
         self.assertEqual(len(set(printed.stdout.split())), 15)
 
 
@@ -299,18 +284,15 @@ class Memory(unittest.TestCase):
         for state in (encryptor._state, decryptor._state):
             self.assertGreater(len(set(contents(state)[:672])), 50)
         encryptor.finalize()
-        with self.assertRaises(hunkravy.InvalidTag):
-            decryptor.finalize(bytes(32))
-        with self.assertRaises(RuntimeError):
-            decryptor.update(b"another chunk")
+        self.assertRaises(hunkravy.InvalidTag, decryptor.finalize, bytes(32))
+        self.assertRaises(RuntimeError, decryptor.update, b"another chunk")
         for state in (encryptor._state, decryptor._state):
             self.assertEqual(contents(state), bytes(len(contents(state))))
 
     @not_sanitized
     def test_freed_objects(self) -> None:
         """A program of its own reads the memory of objects after they are freed."""
-        environment = dict(os.environ, PYTHONPATH=os.pathsep.join(sys.path))
-        subprocess.run([sys.executable, "-c", FREED], env=environment, timeout=60, check=True)
+        subprocess.run([sys.executable, "-c", FREED], env=ENVIRONMENT, timeout=60, check=True)
 
     def test_references(self) -> None:
         """Objects and errors give back the types that they refer to."""

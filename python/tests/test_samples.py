@@ -72,8 +72,7 @@ class Example(unittest.TestCase):
     def test_late_altered_and_of_another_key(self) -> None:
         old, new = Aegis256.generate_key(), Aegis256.generate_key()
         before, after = self.tokens({b"1___": old}), self.tokens({b"1___": old, b"2___": new})
-        with self.assertRaises(self.invalid):
-            before.read(before.issue(["ada"], float("nan"), now=1000), now=1000)
+        self.assertRaises(self.invalid, before.read, before.issue(["ada"], float("nan"), now=1000), now=1000)
         token = before.issue(["ada"], 60, now=1000)
         for tokens in (before, after):
             self.assertEqual(tokens.read(token, now=1059), ["ada"])
@@ -92,8 +91,7 @@ class Example(unittest.TestCase):
         wrong += [(before, token + end, 1000) for end in ("A", "=", " ")]
         self.assertGreater(len(wrong), 500)
         for tokens, altered, now in wrong:
-            with self.assertRaises(self.invalid):
-                tokens.read(altered, now=now)
+            self.assertRaises(self.invalid, tokens.read, altered, now=now)
 
 
 if __name__ == "__main__":

@@ -187,8 +187,7 @@ class Threads(unittest.TestCase):
         """It cannot be resized until the method returns."""
         mac, buffer = Aegis256Mac(bytes(32)), bytearray(1 << 28)
         with Work(lambda: mac.update(buffer)):
-            with self.assertRaises(BufferError):
-                buffer.append(0)
+            self.assertRaises(BufferError, buffer.append, 0)
         buffer.append(0)
 
     def test_a_message_that_changes(self) -> None:

@@ -32,6 +32,13 @@ fn targets() {
     }
 }
 
+/// Compiles a file of this package with these arguments.
+fn compile(source: &str, arguments: &[&str], output: &Path) {
+    let mut rustc = Command::new(std::env::var_os("RUSTC").unwrap_or_else(|| "rustc".into()));
+    rustc.arg(Path::new(env!("CARGO_MANIFEST_DIR")).join(source)).arg("--edition=2024").args(arguments);
+    assert!(rustc.arg("-o").arg(output).status().unwrap().success());
+}
+
 /// The program `build.rs`, run as Cargo runs it, with a package of its own.
 struct Script {
     program: PathBuf,
@@ -42,10 +49,7 @@ impl Script {
     fn new(name: &str) -> Self {
         let package = folder(name);
         let program = package.join("build");
-        let mut rustc = Command::new(std::env::var_os("RUSTC").unwrap_or_else(|| "rustc".into()));
-        rustc.arg(concat!(env!("CARGO_MANIFEST_DIR"), "/build.rs"));
-        rustc.arg("--edition=2024").arg("-o").arg(&program);
-        assert!(rustc.status().unwrap().success());
+        compile("build.rs", &[], &program);
         Script { program, package }
     }
 
@@ -63,7 +67,6 @@ impl Script {
     /// Checks that the folder is found with these variables, or none.
     fn finds(&self, variables: &[(&str, &Path)], folder: Option<&Path>) {
         let printed = self.run(variables);
-        let has = |line: &str| printed.iter().any(|text| text.starts_with(line));
         for variable in
             ["HUNKRAVY_LIB_DIR", "PKG_CONFIG", "PKG_CONFIG_PATH", "PKG_CONFIG_LIBDIR", "PKG_CONFIG_SYSROOT_DIR"]
         {
@@ -74,7 +77,8 @@ impl Script {
         let expected = folder.map(|_| format!("cargo::rustc-link-search=native={shown}"));
         assert!(found.eq(&expected), "{printed:?}");
         assert!(printed.contains(&format!("cargo::rerun-if-changed={shown}/libhunkravy.a")), "{printed:?}");
-        assert_eq!(has("cargo::warning="), folder.is_none(), "{printed:?}");
+        let is_warned = printed.iter().any(|text| text.starts_with("cargo::warning="));
+        assert_eq!(is_warned, folder.is_none(), "{printed:?}");
     }
 
     /// A folder with an archive in it, for the processor that ELF has this number for.
@@ -197,10 +201,7 @@ fn without_the_standard_library() {
 #[test]
 fn drops_overwrite() {
     let assembly = folder("drops").join("hunkravy.s");
-    let mut rustc = Command::new(std::env::var_os("RUSTC").unwrap_or_else(|| "rustc".into()));
-    rustc.arg(concat!(env!("CARGO_MANIFEST_DIR"), "/src/lib.rs"));
-    rustc.args(["-O", "--edition=2024", "--crate-type=rlib", "--emit=asm"]);
-    assert!(rustc.arg("-o").arg(&assembly).status().unwrap().success());
+    compile("src/lib.rs", &["-O", "--crate-type=rlib", "--emit=asm"], &assembly);
     let text = fs::read_to_string(assembly).unwrap();
     let functions: Vec<&str> = text.split(".cfi_endproc").collect();
     for state in ["State", "Records"] {

@@ -1,9 +1,6 @@
 //! A fork: the child has a copy of each file that its parent has open, and must neither write through it nor use its nonces.
 
 #[allow(dead_code)]
-#[path = "sealed/random.rs"]
-mod random;
-#[allow(dead_code)]
 #[path = "raf/support.rs"]
 mod support;
 

@@ -2,9 +2,6 @@
 //! nothing has changed. One that cannot fail would end this program.
 
 #[allow(dead_code)]
-#[path = "sealed/random.rs"]
-mod random;
-#[allow(dead_code)]
 #[path = "raf/support.rs"]
 mod support;
 

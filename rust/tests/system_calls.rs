@@ -2,9 +2,6 @@
 //! their order shows what a loss of power leaves.
 
 #[allow(dead_code)]
-#[path = "sealed/random.rs"]
-mod random;
-#[allow(dead_code)]
 #[path = "raf/support.rs"]
 mod support;
 

@@ -221,11 +221,7 @@ fn the_calls_of_a_recovery() {
 #[test]
 fn locks_that_are_refused() {
     fn locked(disk: &Disk) -> impl RafIo + use<> {
-        let refuse = |at| match at {
-            At::Lock => Err(Error::Locked),
-            _ => Ok(()),
-        };
-        Before(disk.clone(), refuse)
+        Before(disk.clone(), on(At::Lock, || Err(Error::Locked)))
     }
     // All is written but the end of the file.
     let disks = cut_short(&Disks::with(b"").bytes(), &[1; 600], 0, 1 + JOURNAL_CALLS + 2);

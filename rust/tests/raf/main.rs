@@ -10,6 +10,4 @@ mod model;
 mod nested;
 mod owners;
 mod paths;
-#[path = "../sealed/random.rs"]
-mod random;
 mod support;

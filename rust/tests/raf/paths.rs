@@ -147,10 +147,7 @@ fn refused_after_a_file_was_made() {
     fs::write(folder.file(), b"").unwrap();
     assert_eq!(outcome(over().journal(used()).create_file(folder.file(), &KEY)), "Journal");
     assert_eq!(folder.names(), ["file"]);
-    let links = |at| match at {
-        At::Sync => Ok(fs::hard_link(folder.path("new"), folder.path("other"))?),
-        _ => Ok(()),
-    };
+    let links = on(At::Sync, || Ok(fs::hard_link(folder.path("new"), folder.path("other"))?));
     let builder = over().journal(Before(Disks::new().journal, links));
     assert_eq!(outcome(builder.create_file(folder.path("new"), &KEY)), "Moved");
     assert_eq!(folder.names(), ["file", "new", "other"]);
@@ -160,10 +157,7 @@ fn refused_after_a_file_was_made() {
 #[test]
 fn a_file_that_appears_in_place_of_a_journal() {
     let folder = Folder::with(b"");
-    let appears = |at| match at {
-        At::Sync => Ok(fs::write(folder.journal(), [7; 40])?),
-        _ => Ok(()),
-    };
+    let appears = on(At::Sync, || Ok(fs::write(folder.journal(), [7; 40])?));
     let io = Before(FileIo::open(folder.file()).unwrap(), appears);
     assert_eq!(outcome(RafBuilder::<Aegis256>::new().open(io, &KEY)), "Journal");
     assert_eq!(fs::read(folder.journal()).unwrap(), [7; 40]);
@@ -174,12 +168,10 @@ fn a_file_that_appears_in_place_of_a_journal() {
 fn a_journal_that_is_replaced_as_it_is_read() {
     let folder = Folder::with(b"");
     let disks = Disks::of((Vec::new(), vec![7; 20]));
-    let replaced = |at| {
-        if at == At::Read {
-            disks.journal.bytes.borrow_mut().resize(1000, 7);
-        }
+    let replaced = on(At::Read, || {
+        disks.journal.bytes.borrow_mut().resize(1000, 7);
         Ok(())
-    };
+    });
     let builder = RafBuilder::<Aegis256>::new();
     let builder = builder.journal(Before(disks.journal.clone(), replaced));
     assert_eq!(outcome(builder.open_file(folder.file(), &KEY)), "Journal");

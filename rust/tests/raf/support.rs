@@ -1,7 +1,10 @@
 //! Shared by the tests: files on disks in memory that fail, files in folders, and what calls return.
 
-pub use crate::random::Random;
+#[path = "../sealed/random.rs"]
+mod random;
+
 use hunkravy::raf::*;
+pub use random::Random;
 use std::cell::{RefCell, RefMut};
 use std::fs::{self, Permissions};
 use std::os::unix::fs::{MetadataExt, PermissionsExt};
@@ -295,6 +298,11 @@ pub enum At {
     Sync,
     Forget,
     Lock,
+}
+
+/// Does something before each call of one kind.
+pub fn on(kind: At, mut done: impl FnMut() -> Result<()>) -> impl FnMut(At) -> Result<()> {
+    move |at| if at == kind { done() } else { Ok(()) }
 }
 
 /// A storage before whose calls a function is called. If that returns an error, the call is not made.
