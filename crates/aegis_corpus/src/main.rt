@@ -24,13 +24,13 @@ impl Nonces for NoNonces {
     }
 }
 
-// Opens a file and its journal. Returns the contents and the commitment.
+// Opens a file and its journal. Returns the contents and the commitment, in hexadecimal.
 fn opened<L: SavedLanes, const KEY_BYTES: usize>(
     alloc: Global,
     key: &[u8],
     file: &[u8],
     journal: &[u8],
-) -> anyhow::Result<(Vec<u8>, [u8; 32])>
+) -> anyhow::Result<String>
     requires { KEY_BYTES ≡ key_length L.VARIANT.family }
 {
     let mut own_key = [0; KEY_BYTES];
@@ -42,11 +42,14 @@ fn opened<L: SavedLanes, const KEY_BYTES: usize>(
     let mut contents = Vec::new(alloc);
     contents.resize(usize::try_from(pages.len())?, 0)?;
     pages.read_at(0, &mut contents)?;
-    Ok((contents, pages.commitment()?))
+    let commitment = pages.commitment()?;
+    let contents = hex::encode(alloc, &contents)?;
+    let commitment = hex::encode(alloc, &commitment)?;
+    Ok(format!(in alloc; "{contents} {commitment}")?)
 }
 
 // Opens the file of a line.
-fn opened_line(alloc: Global, line: &[u8]) -> anyhow::Result<(Vec<u8>, [u8; 32])> {
+fn opened_line(alloc: Global, line: &[u8]) -> anyhow::Result<String> {
     let fields: Vec<&[u8]> = line.split(|byte| *byte == b' ').collect(alloc)?;
     if fields.len() != 4 {
         return Err(anyhow::anyhow!("not four fields"));
@@ -75,11 +78,7 @@ fn main(rt: HostRuntime) -> anyhow::Result<()> {
     rt.stdin().read_to_end(&mut input)?;
     for line in input.split(|byte| *byte == b'\n') {
         match opened_line(alloc, line) {
-            Ok((contents, commitment)) => {
-                let contents = hex::encode(alloc, &contents)?;
-                let commitment = hex::encode(alloc, &commitment)?;
-                println!(rt; "ok {contents} {commitment}")?;
-            }
+            Ok(answer) => println!(rt; "ok {answer}")?,
             Err(error) => println!(rt; "{error}")?,
         }
     }
