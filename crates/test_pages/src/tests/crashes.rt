@@ -24,7 +24,7 @@ const PARTS: [u32; 6] = [0, 0xfff, 0x555, 0xaaa, 0x39c, 0x1b1];
 const ORDERS: usize = 2;
 
 // How many calls opening makes of the storage, and of the journal.
-const OPENING_CALLS: (u64, u64) = (7, 8);
+const OPENING_CALLS: (u64, u64) = (7, 7);
 
 // How many calls of the storage a commit makes before it writes.
 const READING_CALLS: u64 = 2;
