@@ -12,7 +12,7 @@
  *
  * A commit first writes its changes to the journal, the file PATH.journal, and at its end removes it. Opening completes a
  * commit that was interrupted, or discards all of it. `raf` in Rust, RandomAccessFile in Python and the proved crate
- * `aegis_pages` read and write the same files. RANDOM-ACCESS.md has the format, and the model of a crash.
+ * `aegis_pages` read and write the same files. FORMATS.md has the format, and RANDOM-ACCESS.md what a crash may leave.
  *
  * BATCHES. A batch combines several changes into one. It means the same in C, Python and Rust:
  *
@@ -145,7 +145,7 @@ const char *hunkravy_file_error_text(int code);
 
 /* ---- Files in another storage than files of the system */
 
-/* What a storage has. */
+/* The two parts of a storage. */
 enum hunkravy_part { HUNKRAVY_PART_FILE, HUNKRAVY_PART_JOURNAL };
 
 /*

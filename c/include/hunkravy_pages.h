@@ -4,14 +4,14 @@
  *
  * The contents are split into pages of one size. Each page is encrypted separately, with any variant and a tag of 32
  * bytes. A page decrypts only under its number and the id of its file. An older page of the same number decrypts too.
- * `aegis_pages` and `raf` read and write the same files; RANDOM-ACCESS.md defines the format.
+ * `aegis_pages` and `raf` read and write the same files; FORMATS.md defines the format.
  *
  * A file begins with a header block of HUNKRAVY_PAGE_HEADER_BLOCK_BYTES: the variant, the page size, the file's id, a
  * counter, and the length of the contents. The pages begin at byte HUNKRAVY_PAGE_FIRST. All pages have the full
  * length, even the last: a nonce of hunkravy_key_bytes(variant) bytes, the ciphertext, and the tag.
  *
  * Do not write to a file with these functions: a crash may tear the write, and a file with a torn header is lost. A file
- * beside which there is a journal that is not empty has to be opened by hunkravy_file.h first.
+ * whose journal is not empty must first be opened with hunkravy_file.h.
  *
  * `k` is a key and `npub` a nonce, of hunkravy_key_bytes(variant) bytes each. Use a FRESH RANDOM NONCE for each page
  * and each header that you encrypt. With nonces of 16 bytes encrypt at most 2^48 pages and headers under one key. `id`

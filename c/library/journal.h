@@ -1,7 +1,7 @@
 /*
  * The journal of a commit, and the order of the steps of a commit and of a recovery. These functions are for the engines of
  * this repository alone: c/file, and `raf` of the Rust package, which links them by name. They are no part of the interface
- * of the library, and may change with any version. docs/RANDOM-ACCESS.md defines the bytes.
+ * of the library, and may change with any version. docs/FORMATS.md defines the bytes.
  *
  * A journal has a start, then each write with its head in front, and then a MAC. After an error nothing is written. The
  * rules of hunkravy.h on pointers apply here too.

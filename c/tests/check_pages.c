@@ -51,7 +51,7 @@ static int seal_header(
         npub, layout->n, layout->k, layout->n);
 }
 
-/* ---- The format, as docs/RANDOM-ACCESS.md defines it */
+/* ---- The format, as docs/FORMATS.md defines it */
 
 /* The first bytes of a header. A byte stands for each variant. */
 static void write_clear(uint8_t *clear, const struct layout *layout)

@@ -1,6 +1,6 @@
 //! Sealed files: encrypted files of any length, which are written from beginning to end and read from any place.
 //!
-//! They are the files of the tool `hunkravy`. `docs/SEALED-FILES.md` defines the format.
+//! They are the files of the tool `hunkravy`. `docs/FORMATS.md` defines the format.
 //!
 //! ```
 //! use hunkravy::files::{SealedReader, SealedWriter};

@@ -34,7 +34,7 @@
 //! The names are those of the module `raf` of the crate `aegis`. The format of the files and the derived keys are different.
 //! [`Raf::commitment`] and [`Raf::verify`] replace the Merkle tree. Changes need a commit, and an open file is locked.
 //!
-//! `docs/RANDOM-ACCESS.md` defines the format. The proved crate `aegis_pages` reads and writes it too. Proved functions of the
+//! `docs/FORMATS.md` defines the format. The proved crate `aegis_pages` reads and writes it too. Proved functions of the
 //! library encrypt and decrypt each page and each header, authenticate a journal, and return the order of the writes and syncs of
 //! a commit and of a recovery. Reading and writing files around them is tested against the proved crate, and not proved.
 

@@ -1,4 +1,4 @@
-"""The formats from their pages, docs/SEALED-FILES.md and docs/RANDOM-ACCESS.md: what is written, and what opens.
+"""The formats from their page, docs/FORMATS.md: what is written, and what opens.
 
 A result is "ok" and the contents, or the name of an error.
 """
