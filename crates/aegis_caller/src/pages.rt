@@ -1,6 +1,7 @@
 //! Random-access files, and storages under them.
 
 pub mod both_or_none;
+pub mod error_causes;
 pub mod kept_commitment;
 pub mod kept_in_memory;
 pub mod kept_on_disks;

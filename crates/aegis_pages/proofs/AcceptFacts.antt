@@ -9,7 +9,7 @@ use Rattle.aegis_storage.specs.Journal.{HasBeginning, IsContent, IsJournal, IsOn
 use Rattle.aegis_storage.proofs.Disks.{readable}
 use Rattle.aegis_storage.proofs.Journals.{one_journal}
 use Rattle.aegis_pages.specs.declared.header.FileHeader.{FileHeader}
-use Rattle.aegis_pages.specs.Commits.{AreWritesOf, Fits, HasHonestHeader, IsAccepted, IsHonest, IsNotWhole, IsOfAnother, IsOfCommit, RecoversContentsUnlessForged, head_of, journal_key}
+use Rattle.aegis_pages.specs.Commits.{AreWritesOf, Fits, HasHonestHeader, IsAccepted, IsHonest, IsNotWhole, IsOfAnother, IsOfCommit, MakesNoOther, RecoversContentsUnlessForged, head_of, journal_key}
 use Rattle.aegis_pages.specs.Errors.{IsOpenRefusal}
 use Rattle.aegis_pages.specs.declared.error.PagesError.{PagesError}
 use Rattle.aegis_pages.specs.declared.error.PagesError.TheVariants.{Header, Journal}
@@ -37,6 +37,16 @@ pub writes_read : {R : Type 0} (now : R → List ℕ) (key read : List ℕ) (con
     → (writes : Option Writes) × IfSome writes (λ ws. IsJournal key [] ws read) × IfNone writes ((ws : Writes) → IsJournal key [] ws read → ⊥) × AreWritesOf writes (option_map now content)
 writes_read now key read None some none = (None, tt, none, tt)
 writes_read now key read (Some l) some none = (Some some.0, some.1, tt, (some.1.within, some.2))
+
+-- what was read, with the writes of the journal, from the contracts of the functions that read
+pub was_read : {R : Type 0} (now : R → List ℕ) (variant : Variant) (key : List ℕ) (a b : Option (List ℕ)) (read : List ℕ) (header_block : Option (List ℕ)) (header : Option FileHeader) (content : Option R) → IsLaneCount variant.lanes
+    → IfSome b (λ js. read ≡ js) → IfSome header (λ h. HasHeader variant key h a) → IfNone header (IfSome a (HasNoHeader variant key))
+    → IfSome header_block (λ s. IfSome a (λ file. (512 ≤ length file) × (s ≡ part_at file 0 512))) → IfNone header_block (IfSome a (λ file. length file < 512))
+    → IfSome content (λ l. IsContent (journal_key variant key) [] read (now l)) → IfNone content ((ws : Writes) → IsJournal (journal_key variant key) [] ws read → ⊥)
+    → (writes : Option Writes) × WasRead variant key a b read header_block header writes × AreWritesOf writes (option_map now content)
+was_read now variant key a b read header_block header content count is found none first short some torn =
+    let writes = writes_read now (journal_key variant key) read content some torn in
+    (writes.0, record { count = count; content = is; found = found; none = none; first = first; short = short; whole = writes.1; torn = writes.2 }, writes.3)
 
 -- ---- what is accepted fits
 
@@ -70,6 +80,21 @@ fits_all variant key (Some file) None read header_block header writes it accepte
 fits_all variant key (Some file) (Some js) read header_block header writes it accepted =
     fits variant key file js header_block header writes (subst (λ (l : List ℕ). WasRead variant key (Some file) (Some js) l header_block header writes) it.content it)
     (subst (IsAccepted variant key header_block header writes) it.content accepted)
+
+-- a journal that fits, and that opening would make again only if it is that of the commit, is that of the commit or not whole
+pub made_is_own : (variant : Variant) (key before now : List ℕ) (storage journal : Option Disk) (a b : Option (List ℕ)) (batch : RecoversContentsUnlessForged variant key before now storage journal)
+    → IsPossible a storage → IfSome a (λ file. IfSome b (Fits variant key file)) → IfSome a (λ file. IfSome b (MakesNoOther batch file)) → IfSome b (IsHonest batch)
+made_is_own variant key before now storage journal None b batch p fit made =
+    absurd (let x = readable None storage batch.recovers.storage_disk p batch.recovers.storage_is in let none = x.is in cc)
+made_is_own variant key before now storage journal (Some file) None batch p fit made = tt
+made_is_own variant key before now storage journal (Some file) (Some js) batch p fit made = λ found is. made found is (fit.whole found is)
+
+-- a journal that is that of the commit is none other that opening would make again
+pub own_is_made : (variant : Variant) (key before now : List ℕ) (storage journal : Option Disk) (a b : Option (List ℕ)) (batch : RecoversContentsUnlessForged variant key before now storage journal)
+    → IfSome b (IsHonest batch) → IfSome a (λ file. IfSome b (MakesNoOther batch file))
+own_is_made variant key before now storage journal None b batch honest = tt
+own_is_made variant key before now storage journal (Some file) None batch honest = tt
+own_is_made variant key before now storage journal (Some file) (Some js) batch honest = λ found is _. honest found is
 
 -- ---- what is not accepted does not fit
 

@@ -1,5 +1,6 @@
 -- Bytes that are known, or not, and errors.
 use Rattle.std.proofs.Common.{◌≡◌, ℕ, ◌≤◌, ◌≢◌, ◌∙◌, Bool, Err, Result, List, Option, None, Some, IfSome, refl, sym, arith, rules}
+use Rattle.std.specs.declared.io.Error.{Error}
 use Rattle.aegis_pages.specs.declared.error.PagesError.{PagesError}
 use Rattle.aegis_pages.specs.declared.error.PagesError.TheVariants.{Read, Write, Nonce, Header, Damaged, OutOfMemory, Journal, Broken}
 use Rattle.aegis_pages.specs.Errors.{IsReadRefusal, IsBeginRefusal, IsCreateRefusal, IsReadError}
@@ -32,13 +33,14 @@ read_within layout changes end most o within broken (Damaged k) is = (omega (ari
 read_within layout changes end most o within broken Broken is = is
 read_within layout changes end most o within broken _ is = absurd is
 
-pub create_begins : (n : ℕ) (journal : Option (List ℕ)) → IsPageSize n → (e : PagesError) → IsBeginRefusal journal e → IsCreateRefusal n journal e
-create_begins n journal size (Read e) is = (size, is)
-create_begins n journal size (Write e) is = (size, is)
-create_begins n journal size (Nonce e) is = (size, is)
-create_begins n journal size OutOfMemory is = (size, is)
-create_begins n journal size Journal is = (size, is)
-create_begins n journal size _ is = absurd is
+-- the journal cannot be emptied: the source of nonces was not asked
+pub create_begins : (of_source : Error → Type 0) (n : ℕ) (journal : Option (List ℕ)) → IsPageSize n → (e : PagesError) → IsBeginRefusal (λ _. ⊥) journal e → IsCreateRefusal of_source n journal e
+create_begins of_source n journal size (Read e) is = (size, is)
+create_begins of_source n journal size (Write e) is = (size, is)
+create_begins of_source n journal size (Nonce e) is = absurd is
+create_begins of_source n journal size OutOfMemory is = (size, is)
+create_begins of_source n journal size Journal is = (size, is)
+create_begins of_source n journal size _ is = absurd is
 
 -- reading failed, and so the file was not left alone
 reads_only : (e : PagesError) → IsReadError e → (e ≢ Journal) × (e ≢ Header)

@@ -4,7 +4,7 @@ use Rattle.aegis_aes.specs.Lanes.{IsLaneCount}
 use Rattle.aegis_base.specs.Variant.{Variant}
 use Rattle.aegis_storage.specs.Bytes.{overwritten, part_at}
 use Rattle.aegis_storage.specs.Disk.{Crashed, Disk, IsPossible, Writes, WritesAll, certain, after_writes}
-use Rattle.aegis_storage.specs.Journal.{IsAtRest, IsNoForgery, IsOneOf, KeepsBeginning, RecoversUnlessForged, RecoversKnown, RestsAtEither}
+use Rattle.aegis_storage.specs.Journal.{IsAtRest, IsNoOtherJournal, IsOneOf, KeepsBeginning, RecoversUnlessForged, RecoversKnown, RestsAtEither}
 use Rattle.aegis_storage.proofs.Disks.{certain_leaves, has_left, readable_certain}
 use Rattle.aegis_storage.proofs.Journals.{crashed_beginning, empty_beginning, crashed_recovers, empty_is_none, rest_recovers}
 use Rattle.aegis_pages.specs.Changed.{Plaintexts, contents_at}
@@ -59,7 +59,7 @@ commit_recovers layout counter stored len next changes broken writes key beginni
 -- ---- an opening
 
 pub recovers_again : (variant : Variant) (key : List ℕ) (storage journal storage' journal' : Option Disk) (content : Option (List ℕ))
-    → ((file : List ℕ) (writes : Writes) → IfSome content (IsNoForgery (journal_key variant key) [] writes)
+    → ((file : List ℕ) (writes : Writes) → IfSome content (IsNoOtherJournal (journal_key variant key) [] writes)
     → RecoversUnlessForged (journal_key variant key) [] file writes storage journal → RecoversUnlessForged (journal_key variant key) [] file writes storage' journal')
     → ((beginning : List ℕ) → KeepsBeginning beginning journal → KeepsBeginning beginning journal')
     → (before now : List ℕ) (batch : RecoversContentsUnlessForged variant key before now storage journal) → IfSome content (IsHonest batch) → RecoversContentsUnlessForged variant key before now storage' journal'
@@ -78,7 +78,7 @@ recovers_again variant key storage journal storage' journal' content next beginn
 }
 
 pub rests_at_contents : (variant : Variant) (key : List ℕ) (storage journal storage' journal' : Option Disk) (content : Option (List ℕ))
-    → ((file : List ℕ) (writes : Writes) → IfSome content (IsNoForgery (journal_key variant key) [] writes)
+    → ((file : List ℕ) (writes : Writes) → IfSome content (IsNoOtherJournal (journal_key variant key) [] writes)
     → RecoversUnlessForged (journal_key variant key) [] file writes storage journal → RestsAtEither storage' journal' file writes)
     → (before now : List ℕ) (batch : RecoversContentsUnlessForged variant key before now storage journal) → IfSome content (IsHonest batch) → RestsAtContents variant key before now storage' journal'
 rests_at_contents variant key storage journal storage' journal' content next before now batch honest = record { file = rests.bytes; rests = rests.rests; one = cases rests.one }
@@ -130,8 +130,8 @@ committed_recovers layout counter disk journal before now has =
       beginning = empty_beginning (journal_beginning layout) journal has.rests.journal_is;
     }
 
-no_forgery : (key : List ℕ) (writes : Writes) (content : Option (List ℕ)) → content ≡ Some [] → IfSome content (IsNoForgery key [] writes)
-no_forgery key writes content is = subst (λ (o : Option (List ℕ)). IfSome o (IsNoForgery key [] writes)) (sym is) (λ found journal. absurd (empty_is_none key [] found journal))
+no_other_journal : (key : List ℕ) (writes : Writes) (content : Option (List ℕ)) → content ≡ Some [] → IfSome content (IsNoOtherJournal key [] writes)
+no_other_journal key writes content is = subst (λ (o : Option (List ℕ)). IfSome o (IsNoOtherJournal key [] writes)) (sym is) (λ found journal. absurd (empty_is_none key [] found journal))
 
 -- what opens to contents that are committed, by an empty journal
 pub committed_batch : (variant : Variant) (key : List ℕ) (storage journal : Option Disk) (content : Option (List ℕ)) (contents : List ℕ) → IsPossible content journal → AreCommitted variant key storage journal contents
@@ -141,7 +141,7 @@ committed_batch variant key storage journal content contents possible has =
     let own : RecoversContentsUnlessForged has.0.variant has.0.key contents contents storage journal = committed_recovers has.0 has.1 storage journal contents contents has.4 in
     let batch = subst (λ (l : List ℕ). RecoversContentsUnlessForged variant l contents contents storage journal) has.3
     (subst (λ (v : Variant). RecoversContentsUnlessForged v has.0.key contents contents storage journal) has.2 own) in
-    (batch, no_forgery (journal_key variant key) batch.writes content (readable_certain content journal [] possible has.4.rests.journal_is))
+    (batch, no_other_journal (journal_key variant key) batch.writes content (readable_certain content journal [] possible has.4.rests.journal_is))
 
 -- ---- a crash
 

@@ -4,7 +4,7 @@ use Rattle.aegis_base.specs.Mac.{mac}
 use Rattle.aegis_base.specs.Variant.{Variant, key_length}
 use Rattle.aegis_storage.specs.Bytes.{part_at}
 use Rattle.aegis_storage.specs.Disk.{Disk, Writes, after_writes}
-use Rattle.aegis_storage.specs.Journal.{AreWithin, IsAtRest, IsJournal, IsNoForgery, IsOneOf, KeepsBeginning, RecoversUnlessForged, entries}
+use Rattle.aegis_storage.specs.Journal.{AreWithin, IsAtRest, IsJournal, IsNoOtherJournal, IsOneOf, KeepsBeginning, RecoversUnlessForged, entries}
 use Rattle.aegis_pages.specs.declared.header.FileHeader.{FileHeader}
 use Rattle.aegis_pages.specs.Layouts.{HasNoHeader, IsHeader, Layout, journal_beginning, journal_magic, layout_of}
 use Rattle.aegis_pages.specs.SealedPages.{IsFileOf, IsFileUnder}
@@ -37,8 +37,8 @@ IsOfCommit head writes = BeginsWith head writes ⊎ EndsWith head writes
 
 -- ---- crashes
 
--- Whatever a crash now leaves of the storage and of the journal, unless it leaves a forgery, opening gives the contents
--- `before` or the contents `now`.
+-- Whatever a crash now leaves of the storage and of the journal, unless it leaves another whole journal, opening gives the
+-- contents `before` or the contents `now`.
 pub record RecoversContentsUnlessForged (variant : Variant) (key before now : List ℕ) (storage journal : Option Disk) : Type 0 where
   pub layout : Layout
   pub file : List ℕ
@@ -54,9 +54,19 @@ pub record RecoversContentsUnlessForged (variant : Variant) (key before now : Li
   -- a journal that is longer than its beginning begins with that of the file
   pub beginning : KeepsBeginning (journal_beginning layout) journal
 
--- The journal's content is no forgery.
+-- If the journal's content is a whole journal, it is that of the commit: no forgery, and no older one.
 abbrev pub IsHonest : {variant : Variant} {key before now : List ℕ} {storage journal : Option Disk} → RecoversContentsUnlessForged variant key before now storage journal → List ℕ → Type 0
-IsHonest {variant} {key} batch bytes = IsNoForgery (journal_key variant key) [] batch.writes bytes
+IsHonest {variant} {key} batch bytes = IsNoOtherJournal (journal_key variant key) [] batch.writes bytes
+
+-- Opening would make a whole journal of these writes again, by the header of the file: their commit began or ended with
+-- that one, or the file has none.
+abbrev pub IsMadeAgain : Variant → (key file : List ℕ) → Writes → Type 0
+IsMadeAgain variant key file writes = (HasNoHeader variant key file → ⊥) → IsOfCommit (head_of variant file) writes
+
+-- The premise on what an opening finds: a whole journal that it would make again is that of the commit. An older journal
+-- meets it, except that of the commit before, and that of one from the same header that failed.
+abbrev pub MakesNoOther : {variant : Variant} {key before now : List ℕ} {storage journal : Option Disk} → RecoversContentsUnlessForged variant key before now storage journal → (file content : List ℕ) → Type 0
+MakesNoOther {variant} {key} batch file content = (found : Writes) → IsJournal (journal_key variant key) [] found content → IsMadeAgain variant key file found → found ≡ batch.writes
 
 -- The header of the storage's content is no forgery: if there is one, it is that of before the commit or of after it.
 -- A torn header that opens all the same would be another.
@@ -106,8 +116,7 @@ IsNotWhole variant key journal = (writes : Writes) → IsJournal (journal_key va
 -- The journal may be made again, or emptied: if it is whole, and the file has a header, its commit began or ended with
 -- that one; and if it is not whole the file has a header, and it has no more than a beginning, or begins with that of the file.
 pub record Fits (variant : Variant) (key file journal : List ℕ) : Type 0 where
-  pub whole : (writes : Writes) → IsJournal (journal_key variant key) [] writes journal
-      → (HasNoHeader variant key file → ⊥) → IsOfCommit (head_of variant file) writes
+  pub whole : (writes : Writes) → IsJournal (journal_key variant key) [] writes journal → IsMadeAgain variant key file writes
   pub other : IsNotWhole variant key journal → HasNoHeader variant key file → ⊥
   pub own : IsNotWhole variant key journal → (layout : Layout) (counter len : ℕ) → layout.variant ≡ variant → layout.key ≡ key
       → IsHeader layout counter len file → IsOfAnother (journal_beginning layout) journal → ⊥
@@ -116,6 +125,6 @@ pub record Fits (variant : Variant) (key file journal : List ℕ) : Type 0 where
 unfoldable pub RecoversUnder : Layout → (before now : List ℕ) → (storage journal : Option Disk) → Type 0
 RecoversUnder layout before now storage journal = RecoversContentsUnlessForged layout.variant layout.key before now storage journal
 
--- Whatever a crash now leaves of the file, unless it leaves a forgery, opening gives the contents `before` or the contents `now`.
+-- Whatever a crash now leaves of the file, unless it leaves another whole journal, opening gives the contents `before` or `now`.
 abbrev pub RecoversOneUnlessForged : OpenFile → (before now : List ℕ) → Type 0
 RecoversOneUnlessForged file before now = RecoversUnder file.layout before now file.disk file.journal

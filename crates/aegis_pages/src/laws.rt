@@ -83,7 +83,7 @@ pub fn committed_after_a_crash()
         → AreCommitted variant key (Some (certain ys)) (Some (certain js)) contents }
 {}
 
-/// What is recovered, and is no forgery, is left by a commit: so [`crate::Pages::open`] accepts it.
+/// What is recovered, with no forged header and no other whole journal, is left by a commit: `Pages::open` accepts it.
 #[tactic(auto, unfolding(crate::specs::Commits::IsLeftByCommit))]
 pub fn recovered_is_left_by_a_commit()
     ensures { (variant : Variant) (key before now : List ℕ) (bytes content : Option (List ℕ))

@@ -4,7 +4,7 @@ ghost use Rattle.std.specs.Prelude.{◌≡◌, ◌≢◌, ◌+◌, ◌≤◌, �
 ghost use Rattle.aegis_base.specs.Variant.{key_length};
 ghost use Rattle.aegis_storage.specs.Disk.{Writes};
 ghost use Rattle.aegis_storage.specs.Journal.{AreWithin, entries};
-ghost use Rattle.aegis_pages.specs.Commits.{AreWritesOf, BeginsWith, EndsWith, Fits, IsAccepted, IsHonest, IsLeftByCommit, IsOfAnother, IsOfCommit, RecoversContentsUnlessForged, RestsAtContents, journal_key};
+ghost use Rattle.aegis_pages.specs.Commits.{AreWritesOf, BeginsWith, EndsWith, Fits, IsAccepted, IsLeftByCommit, IsOfAnother, IsOfCommit, MakesNoOther, RecoversContentsUnlessForged, RestsAtContents, journal_key};
 ghost use Rattle.aegis_pages.specs.Errors.{IsLeftAlone, IsOpenRefusal};
 ghost use Rattle.aegis_pages.specs.Layouts.{IsPageSize, HasHeader};
 
@@ -143,10 +143,10 @@ fn left_alone(header: Option<FileHeader>) -> PagesError
 /// made again and emptied; so it is also if the file has no header. A torn one is emptied if the file has a header.
 /// Otherwise nothing is changed: the error is [`PagesError::Journal`] for a whole journal of another commit, or one
 /// that does not begin with the beginning of this file's, and [`PagesError::Header`] if the file has no header and the
-/// journal is not whole. Neither is returned for what a commit and a crash left, unless that is a forgery.
+/// journal is not whole. A commit and a crash lead to neither, without a forged header or another whole journal.
 ///
-/// The others are [`PagesError::Read`], [`PagesError::Write`] and [`PagesError::OutOfMemory`]. Nothing is then lost:
-/// call it again.
+/// The others are [`PagesError::Read`], [`PagesError::Write`] and [`PagesError::OutOfMemory`]. What a commit and a
+/// crash left, another call can still recover.
 pub fn recover_file<
     S: Storage,
     J: Storage,
@@ -167,13 +167,15 @@ pub fn recover_file<
     ensures recovers { (before now : List ℕ)
         → (batch : RecoversContentsUnlessForged L.VARIANT key.now before now
         (S.disk storage.old) (J.disk journal.old))
-        → IfSome (J.bytes journal.old) (IsHonest batch)
+        → IfSome (S.bytes storage.old) (λ file.
+        IfSome (J.bytes journal.old) (MakesNoOther batch file))
         → RecoversContentsUnlessForged L.VARIANT key.now before now
         (S.disk storage.new) (J.disk journal.new) }
     ensures rests { OnOk result ((before now : List ℕ)
         → (batch : RecoversContentsUnlessForged L.VARIANT key.now before now
         (S.disk storage.old) (J.disk journal.old))
-        → IfSome (J.bytes journal.old) (IsHonest batch)
+        → IfSome (S.bytes storage.old) (λ file.
+        IfSome (J.bytes journal.old) (MakesNoOther batch file))
         → RestsAtContents L.VARIANT key.now before now (S.disk storage.new) (J.disk journal.new)) }
     ensures fits { OnOk result (IfSome (S.bytes storage.old) (λ file.
         IfSome (J.bytes journal.old) (Fits L.VARIANT key.now file))) }

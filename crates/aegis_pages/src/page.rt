@@ -130,7 +130,7 @@ pub fn sealed_page<N: Nonces, L: LaneState, const KEY_BYTES: usize, A: Allocator
         OpensAt layout.now number write.bytes.items contents.now) }
     ensures size { IfOk result (λ write.
         length write.bytes.items ≡ sealed_bytes layout.now layout.now.page_bytes) }
-    ensures refused { IfErr result IsSealError }
+    ensures refused { IfErr result (IsSealError N.errors) }
 {
     let place = layout.page_place(number);
     let mut nonce = [0; KEY_BYTES];

@@ -6,8 +6,8 @@ ghost use Rattle.aegis_storage.specs.Bytes.{overwritten, part_at, resized};
 ghost use Rattle.aegis_storage.specs.Disk.{Disk, certain};
 ghost use Rattle.aegis_pages.specs.Changed.{contents_at};
 ghost use Rattle.aegis_pages.specs.Commitments.{commitment};
-ghost use Rattle.aegis_pages.specs.Commits.{Fits, IsHonest, IsLeftByCommit, RecoversContentsUnlessForged, RecoversOneUnlessForged};
-ghost use Rattle.aegis_pages.specs.Errors.{IsBeginError, IsBeginRefusal, IsCommitRefusal, IsCommitmentRefusal, IsCreateRefusal, IsOpenRefusal, IsReadRefusal, IsVerifyRefusal, IsWriteRefusal};
+ghost use Rattle.aegis_pages.specs.Commits.{Fits, IsLeftByCommit, MakesNoOther, RecoversContentsUnlessForged, RecoversOneUnlessForged};
+ghost use Rattle.aegis_pages.specs.Errors.{Breaks, IsBeginError, IsBeginRefusal, IsCommitRefusal, IsCommitmentRefusal, IsCreateRefusal, IsOpenRefusal, IsReadRefusal, IsVerifyRefusal, IsWriteRefusal};
 ghost use Rattle.aegis_pages.specs.Layouts.{IsHeader, IsPageSize};
 ghost use Rattle.aegis_pages.specs.OpenFile.{AreCommitted, HasCommitted, HasContents, IsCertain, IsKnown, IsStoredAs, IsUnchanged, OpenFile, OpensAtOne, Reads};
 ghost use Rattle.aegis_pages.specs.SealedPages.{IsFileOf, KeepsOthers};
@@ -99,7 +99,7 @@ fn begin_file<S: Storage, N: Nonces, L: LaneState, const KEY_BYTES: usize, A: Al
         (λ file. IsHeader layout.now 0 0 file) (S.bytes storage.new))) }
     ensures certain { OnOk result ((disk : Disk) → S.disk storage.old ≡ Some disk
         → IsCertain (λ file. IsHeader layout.now 0 0 file) (S.disk storage.new)) }
-    ensures refused { IfErr result IsBeginError }
+    ensures refused { IfErr result (IsBeginError N.errors) }
 {
     let header = sealed_header(alloc, nonces, layout, 0, 0)?;
     match storage.set_size(0) {
@@ -122,7 +122,7 @@ fn begin_journal<J: Storage>(journal: &mut J) -> Result<(), PagesError>
     ensures certain { OnOk result ((disk : Disk) → J.disk journal.old ≡ Some disk
         → J.disk journal.new ≡ Some (certain [])) }
     ensures empty { OnOk result (IfSome (J.bytes journal.old) (λ js. length js ≡ 0)) }
-    ensures refused { IfErr result (IsBeginRefusal (J.bytes journal.old)) }
+    ensures refused { IfErr result (IsBeginRefusal (λ _. ⊥) (J.bytes journal.old)) }
 {
     match journal.size() {
         Ok(size) => {
@@ -179,7 +179,7 @@ impl<
             (λ _. IfSome (J.disk journal) (λ _. HasCommitted pages []))) }
         ensures size { OnOk result (IsPageSize page_bytes) }
         ensures occupied { OnOk result (IfSome (J.bytes journal) (λ js. length js ≡ 0)) }
-        ensures refused { IfErr result (IsCreateRefusal page_bytes (J.bytes journal)) }
+        ensures refused { IfErr result (IsCreateRefusal N.errors page_bytes (J.bytes journal)) }
     {
         if !is_page_size(page_bytes) {
             return Err(PagesError::PageSize);
@@ -207,7 +207,7 @@ impl<
 
     /// Opens the file that the storage holds, and completes a commit that was cut short, or leaves out all of it, as
     /// [`crate::recover_file`] does, whose errors it returns. So it returns neither [`PagesError::Journal`] nor
-    /// [`PagesError::Header`] for what a commit and a crash left, unless that is a forgery.
+    /// [`PagesError::Header`] after a commit and a crash that left no other whole journal and no forged header.
     pub fn open(
         alloc: A,
         mut storage: S,
@@ -226,7 +226,8 @@ impl<
         ensures recovered { IfOk result (λ pages. (before now : List ℕ)
             → (batch : RecoversContentsUnlessForged L.VARIANT key.now before now
             (S.disk storage) (J.disk journal))
-            → IfSome (J.bytes journal) (IsHonest batch)
+            → IfSome (S.bytes storage) (λ file.
+            IfSome (J.bytes journal) (MakesNoOther batch file))
             → OpensAtOne pages before now) }
         ensures committed { IfOk result (λ pages. (contents : List ℕ)
             → AreCommitted L.VARIANT key.now (S.disk storage) (J.disk journal) contents
@@ -387,9 +388,9 @@ impl<
     /// journal, then written to their places, and then the journal is emptied, each with a sync.
     ///
     /// Returns [`PagesError::Broken`], [`PagesError::TooLong`], [`PagesError::Read`], [`PagesError::Nonce`] or
-    /// [`PagesError::OutOfMemory`] before anything is written. After [`PagesError::Write`] the file is broken, unless
-    /// nothing has changed: reads, changes and commits of a broken one return [`PagesError::Broken`]. Open it again,
-    /// which gives the contents before the changes or those after them.
+    /// [`PagesError::OutOfMemory`] before anything is written: the file is as it was. After [`PagesError::Write`] the
+    /// file is broken: reads, changes and commits of a broken one return [`PagesError::Broken`]. Open it again, which
+    /// gives the contents before the changes or those after them.
     pub fn commit(&mut self) -> Result<(), PagesError>
         ensures layout { self.new.layout ≡ self.old.layout }
         ensures len { self.new.len ≡ self.old.len }
@@ -400,8 +401,9 @@ impl<
         ensures certain { OnOk result ((before now : List ℕ) → HasCommitted self.old before
             → HasContents self.old now → HasCommitted self.new now) }
         ensures broken { self.old.broken ≡ true → result ≡ Err PagesError.Broken }
-        ensures breaks { IfErr result (λ _. (self.new.broken ≡ true) ⊎ (self.new ≡ self.old)) }
-        ensures refused { IfErr result (IsCommitRefusal self.old.broken self.old.counter) }
+        ensures breaks { IfErr result (Breaks self.old self.new) }
+        ensures refused { IfErr result
+            (IsCommitRefusal N.errors self.old.broken self.old.counter) }
     {
         if self.is_broken {
             return Err(PagesError::Broken);

@@ -31,7 +31,7 @@ pub fn sealed_header<N: Nonces, L: LaneState, const KEY_BYTES: usize, A: Allocat
     ensures place { IfOk result (λ write. write.place ≡ 0) }
     ensures size { IfOk result (λ write. length write.bytes.items ≡ 512) }
     ensures header { IfOk result (λ write. IsHeaderBlock layout.now counter len write.bytes.items) }
-    ensures refused { IfErr result IsSealError }
+    ensures refused { IfErr result (IsSealError N.errors) }
 {
     let mut nonce = [0; KEY_BYTES];
     match nonces.draw(&mut nonce) {
@@ -58,7 +58,7 @@ pub fn seal_pages<N: Nonces, L: LaneState, const KEY_BYTES: usize, A: Allocator 
         × (writes_of writes.new.items ≡ writes_of writes.old.items ++ more)
         × Seals layout.now (plaintexts_in plaintexts.now) more) }
     ensures one { OnOk result (HaveOnePlaintext (plaintexts_in plaintexts.now)) }
-    ensures refused { IfErr result IsSealError }
+    ensures refused { IfErr result (IsSealError N.errors) }
 {
     for (number, contents) in plaintexts {
         let write = sealed_page(alloc, nonces, layout, *number, &contents.bytes)?;
@@ -92,7 +92,7 @@ pub fn sealed_commit<N: Nonces, L: LaneState, const KEY_BYTES: usize, A: Allocat
     ensures new_head { IfOk result (λ writes. (file : List ℕ)
         → IsOfCommit (head_of layout.now.variant (after_writes (writes_of writes.items) file))
         (writes_of writes.items)) }
-    ensures refused { IfErr result IsSealError }
+    ensures refused { IfErr result (IsSealError N.errors) }
 {
     let Ok(first) = PendingWrite::new(alloc, 0, header_block) else {
         return Err(PagesError::OutOfMemory);

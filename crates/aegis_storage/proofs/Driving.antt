@@ -1,7 +1,7 @@
 -- Commits and recoveries whose steps stopped, or came to their end.
 use Rattle.std.proofs.Common.{◌≡◌, ℕ, List, [], Err, IfSome, None, OnOk, Ok, Option, Result, Some, ap, length, subst, subst₂, sym, take, ◌∙◌}
 use Rattle.aegis_storage.specs.Disk.{Crashed, Disk, IsPossible, Writes, WritesAll, after_writes, certain}
-use Rattle.aegis_storage.specs.Journal.{IsAtRest, IsJournal, IsNoForgery, KeepsBeginning, RecoversKnown, RecoversUnlessForged, RestsAtEither}
+use Rattle.aegis_storage.specs.Journal.{IsAtRest, IsJournal, IsNoOtherJournal, KeepsBeginning, RecoversKnown, RecoversUnlessForged, RestsAtEither}
 use Rattle.aegis_storage.specs.Steps.{AreRedone, Held, Knows, LeavesOne, Recoverable, Taken, commit_steps, held, journal_effect, recovery_steps, storage_effect}
 use Rattle.aegis_storage.proofs.Disks.{readable, readable_certain}
 use Rattle.aegis_storage.proofs.StepLaws.{commit_begins, commit_recovers, commit_rests, recovery_begins, recovery_recovers, recovery_rests}
@@ -45,8 +45,8 @@ pub record Start (key context xs : List ℕ) (writes found : Writes) (sb jb : Op
   pub recoverable : Recoverable key context xs writes found s (record { bytes = js; disk = disk })
 
 pub recover_starts : (key context xs : List ℕ) (writes found : Writes) (sb jb : Option (List ℕ)) (sd jd : Option Disk) (read js : List ℕ) → IsPossible sb sd → IsPossible jb jd → IfSome jb (λ ys. read ≡ ys) → js ≡ read
-    → AreRedone key context js found → IfSome jb (IsNoForgery key context writes) → RecoversUnlessForged key context xs writes sd jd → Start key context xs writes found sb jb sd jd js
-recover_starts key context xs writes found sb jb sd jd read js p q is_read same redone no_forgery recovers =
+    → AreRedone key context js found → IfSome jb (IsNoOtherJournal key context writes) → RecoversUnlessForged key context xs writes sd jd → Start key context xs writes found sb jb sd jd js
+recover_starts key context xs writes found sb jb sd jd read js p q is_read same redone no_other_journal recovers =
     let x = readable sb sd recovers.storage_disk p recovers.storage_is in
     let y = readable jb jd recovers.journal_disk q recovers.journal_is in
     let are : js ≡ y.xs = same ∙ rw y.is at is_read in record {
@@ -58,7 +58,7 @@ recover_starts key context xs writes found sb jb sd jd read js p q is_read same 
         storage = x.possible;
         journal = subst (λ (l : List ℕ). Crashed recovers.journal_disk l) (sym are) y.possible;
         recovers = subst₂ (λ (a b : Option Disk). RecoversUnlessForged key context xs writes a b) recovers.storage_is recovers.journal_is recovers;
-        no_forgery = subst (λ (l : List ℕ). IsNoForgery key context writes l) (sym are) (rw y.is at no_forgery);
+        no_other_journal = subst (λ (l : List ℕ). IsNoOtherJournal key context writes l) (sym are) (rw y.is at no_other_journal);
         redone = redone;
       };
     }

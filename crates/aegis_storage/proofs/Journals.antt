@@ -5,7 +5,7 @@ use Rattle.std.proofs.lemmas.List.{append-nil, append_assoc, map-append, take-ap
 use Rattle.std.proofs.lemmas.Nat.{from_le_bytes-to_le_bytes_8}
 use Rattle.std.specs.Int.{to_le_bytes, w64}
 use Rattle.aegis_storage.specs.declared.pending.PendingWrite.{PendingWrite}
-use Rattle.aegis_storage.specs.Journal.{AreWithin, entries, entry, Gives, GivesOneOf, IsAtRest, IsFramed, IsJournal, IsOneOf, IsNoForgery, IsSafe, RecoversUnlessForged, RecoversKnown, authenticated, HasBeginning, KeepsBeginning}
+use Rattle.aegis_storage.specs.Journal.{AreWithin, entries, entry, Gives, GivesOneOf, IsAtRest, IsFramed, IsJournal, IsOneOf, IsNoOtherJournal, IsSafe, RecoversUnlessForged, RecoversKnown, authenticated, HasBeginning, KeepsBeginning}
 use Rattle.aegis_storage.specs.Disk.{writes_of, Crashed, Disk, IsWithin, Size, Writes, WritesAll, certain, changes, after_writes, Change, IsPartOfOne, Write, after, changed}
 use Rattle.aegis_base.specs.Mac.{mac}
 use Rattle.aegis_base.specs.Variant.{Aegis128L}
@@ -165,8 +165,8 @@ any_journal key context xs writes zs storage journal one within = record {
   journal_disk = journal;
   storage_is = refl;
   journal_is = refl;
-  gives = λ ys js p q no_forgery. rw (certain_only zs ys (within_crashed storage (certain zs) within ys p)) (record {
-    whole = λ found is. inr (rw (no_forgery found is) (one_written writes xs zs one));
+  gives = λ ys js p q no_other_journal. rw (certain_only zs ys (within_crashed storage (certain zs) within ys p)) (record {
+    whole = λ found is. inr (rw (no_other_journal found is) (one_written writes xs zs one));
     other = λ not. one;
   });
   safe = inl (zs, within);
@@ -206,10 +206,10 @@ known_other key context js (Some xs) not = record { whole = λ writes is. absurd
 -- ---- a crash
 
 pub gives_of : (key context xs : List ℕ) (writes : Writes) (storage journal : Disk) → RecoversUnlessForged key context xs writes (Some storage) (Some journal)
-    → (ys js : List ℕ) → Crashed storage ys → Crashed journal js → IsNoForgery key context writes js → GivesOneOf key context xs (after_writes writes xs) js ys
-gives_of key context xs writes storage journal recovers ys js p q no_forgery =
+    → (ys js : List ℕ) → Crashed storage ys → Crashed journal js → IsNoOtherJournal key context writes js → GivesOneOf key context xs (after_writes writes xs) js ys
+gives_of key context xs writes storage journal recovers ys js p q no_other_journal =
     let s : storage ≡ recovers.storage_disk = (let is = recovers.storage_is in cc) in
-    let j : journal ≡ recovers.journal_disk = (let is = recovers.journal_is in cc) in recovers.gives ys js (rw s at p) (rw j at q) no_forgery
+    let j : journal ≡ recovers.journal_disk = (let is = recovers.journal_is in cc) in recovers.gives ys js (rw s at p) (rw j at q) no_other_journal
 
 pub safe_of : (key context xs : List ℕ) (writes : Writes) (storage journal : Disk) → RecoversUnlessForged key context xs writes (Some storage) (Some journal) → IsSafe key context writes storage journal
 safe_of key context xs writes storage journal recovers =
@@ -223,9 +223,9 @@ crashed_recovers key context xs writes storage journal ys js recovers p q = reco
   journal_disk = certain js;
   storage_is = refl;
   journal_is = refl;
-  gives = λ zs ks a b no_forgery.
+  gives = λ zs ks a b no_other_journal.
       let same = certain_only js ks b in
-      rw (certain_only ys zs a, same) (gives_of key context xs writes storage journal recovers ys js p q (rw same at no_forgery));
+      rw (certain_only ys zs a, same) (gives_of key context xs writes storage journal recovers ys js p q (rw same at no_other_journal));
   safe = inl (ys, within_itself (certain ys));
 }
 

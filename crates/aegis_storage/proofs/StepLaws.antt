@@ -76,7 +76,7 @@ syncing_recovers key context xs writes s s' j j' recovers p q = record {
   journal_disk = j';
   storage_is = refl;
   journal_is = refl;
-  gives = λ ys js a b no_forgery. gives_of key context xs writes s j recovers ys js (p.0 ys a) (q.0 js b) no_forgery;
+  gives = λ ys js a b no_other_journal. gives_of key context xs writes s j recovers ys js (p.0 ys a) (q.0 js b) no_other_journal;
   safe = cases (safe_of key context xs writes s j recovers);
 }
   where
@@ -98,7 +98,7 @@ unwritten_storage : (key context xs : List ℕ) (writes : Writes) (s j : Held) �
 unwritten_storage key context xs writes s j r = record { one = one r.redone; settled = cases (safe_of key context xs writes s.disk j.disk r.recovers) }
   where
     gives : (ys : List ℕ) → Crashed s.disk ys → GivesOneOf key context xs (after_writes writes xs) j.bytes ys
-    gives ys crashed = gives_of key context xs writes s.disk j.disk r.recovers ys j.bytes crashed r.journal r.no_forgery
+    gives ys crashed = gives_of key context xs writes s.disk j.disk r.recovers ys j.bytes crashed r.journal r.no_other_journal
 
     one : AreRedone key context j.bytes [] → IsOneOf xs (after_writes writes xs) s.bytes
     one (inl whole) = (gives s.bytes r.storage).whole [] whole
@@ -107,7 +107,7 @@ unwritten_storage key context xs writes s j r = record { one = one r.redone; set
     -- a whole journal without writes is that of no writes
     only : IsJournal key context [] j.bytes → (ys : List ℕ) → Crashed s.disk ys → ys ≡ xs
     only whole ys crashed =
-        let none = r.no_forgery [] whole in
+        let none = r.no_other_journal [] whole in
         elim ((gives ys crashed).whole [] whole) [ inl before ↦ before | inr all ↦ all ∙ ap (λ (l : Writes). after_writes l xs) (sym none) ]
 
     journaled : IsJournal key context writes j.bytes → AreRedone key context j.bytes [] → SettlesTo s.disk s.bytes
@@ -144,7 +144,7 @@ unwritten_recovers key context xs writes s j s' j' (suc k) r a b =
 -- its writes give the same, whatever a crash leaves of the storage
 written_over : (key context xs : List ℕ) (writes : Writes) (s j : Held) → Recoverable key context xs writes writes s j → IsJournal key context writes j.bytes → (ys : List ℕ) → Crashed s.disk ys → after_writes writes ys ≡ after_writes writes xs
 written_over key context xs writes s j r whole ys crashed =
-    sym (again writes ys) ∙ one_written writes xs (after_writes writes ys) ((gives_of key context xs writes s.disk j.disk r.recovers ys j.bytes crashed r.journal r.no_forgery).whole writes whole)
+    sym (again writes ys) ∙ one_written writes xs (after_writes writes ys) ((gives_of key context xs writes s.disk j.disk r.recovers ys j.bytes crashed r.journal r.no_other_journal).whole writes whole)
 
 recovery_making : (key context xs : List ℕ) (writes : Writes) (s j a : Held) → Recoverable key context xs writes writes s j → IsJournal key context writes j.bytes → Does Syncs s a → Making key context xs writes j.bytes s.disk a
 recovery_making key context xs writes s j a r whole synced = record { whole = whole; written = written_over key context xs writes s j r whole; within = synced.1.otherwise }
@@ -169,7 +169,7 @@ the_writes : (key context xs : List ℕ) (writes found : Writes) (s j : Held) �
 the_writes key context xs writes found s j r = cases r.redone
   where
     cases : AreRedone key context j.bytes found → ((found ≡ writes) × IsJournal key context writes j.bytes) ⊎ (found ≡ [])
-    cases (inl whole) = let same = r.no_forgery found whole in inl (same, rw same at whole)
+    cases (inl whole) = let same = r.no_other_journal found whole in inl (same, rw same at whole)
     cases (inr none) = inr none.0
 
 pub recovery_recovers : (key context xs : List ℕ) (writes found : Writes) (s j s' j' : Held) (k : ℕ) → Recoverable key context xs writes found s j → StopsAt (storage_effect found) (recovery_steps (length found)) k s s'

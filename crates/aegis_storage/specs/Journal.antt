@@ -35,6 +35,10 @@ authenticated context content = to_le_bytes w64 (length context) ++ (context ++ 
 abbrev pub framed : (key beginning nonce context content : List ℕ) → List ℕ
 framed key beginning nonce context content = beginning ++ (nonce ++ (content ++ mac Aegis128L 32 key nonce (authenticated context content)))
 
+-- how many bytes the journal of the writes has
+abbrev pub journal_length : Writes → ℕ
+journal_length writes = 512 + (16 + (length (entries writes) + 32))
+
 -- The bytes are a beginning, a nonce, this content, and its MAC under the nonce, the key and the context.
 pub record IsFramed (key context content bytes : List ℕ) : Type 0 where
   pub beginning : List ℕ
@@ -71,24 +75,25 @@ IsOneOf a b bytes = (bytes ≡ a) ⊎ (bytes ≡ b)
 abbrev pub GivesOneOf : (key context a b journal old : List ℕ) → Type 0
 GivesOneOf key context a b journal old = Gives key context journal old (IsOneOf a b)
 
--- The premise on AEGIS: if the bytes are a journal under the key and the context, then of these writes. Bytes that are
--- not are a forgery, which nobody can find without the key but by chance.
-abbrev pub IsNoForgery : (key context : List ℕ) → Writes → List ℕ → Type 0
-IsNoForgery key context writes bytes = (found : Writes) → IsJournal key context found bytes → found ≡ writes
+-- The premise on what a crash leaves: if the bytes are a whole journal under the key and the context, then of these writes.
+-- It excludes forgeries, which nobody can find without the key but by chance, and older whole journals, which a disk may
+-- still have somewhere.
+abbrev pub IsNoOtherJournal : (key context : List ℕ) → Writes → List ℕ → Type 0
+IsNoOtherJournal key context writes bytes = (found : Writes) → IsJournal key context found bytes → found ≡ writes
 
 -- What the storage holds is certain, or the journal is certain, and is that of these writes.
 abbrev pub IsSafe : (key context : List ℕ) → Writes → (storage journal : Disk) → Type 0
 IsSafe key context writes storage journal =
     ((bytes : List ℕ) × IsWithin storage (certain bytes)) ⊎ ((bytes : List ℕ) × IsJournal key context writes bytes × IsWithin journal (certain bytes))
 
--- Whatever a crash now leaves of the storage and of the journal, unless it leaves a forgery, recovery gives xs, or xs
--- with all the writes over it. Without a crash it does so too, whichever syncs have failed, since one of the two is certain.
+-- Whatever a crash now leaves of the storage and of the journal, unless it leaves another whole journal, recovery gives xs,
+-- or xs with all the writes over it. Without a crash it does so too, whichever syncs have failed, since one of the two is certain.
 pub record RecoversUnlessForged (key context xs : List ℕ) (writes : Writes) (storage journal : Option Disk) : Type 0 where
   pub storage_disk : Disk
   pub journal_disk : Disk
   pub storage_is : storage ≡ Some storage_disk
   pub journal_is : journal ≡ Some journal_disk
-  pub gives : (ys js : List ℕ) → Crashed storage_disk ys → Crashed journal_disk js → IsNoForgery key context writes js
+  pub gives : (ys js : List ℕ) → Crashed storage_disk ys → Crashed journal_disk js → IsNoOtherJournal key context writes js
       → GivesOneOf key context xs (after_writes writes xs) js ys
   pub safe : IsSafe key context writes storage_disk journal_disk
 

@@ -1,4 +1,5 @@
 pub mod Bytes
 pub mod Disk
+pub mod Errors
 pub mod Journal
 pub mod Steps

@@ -4,7 +4,7 @@ use Rattle.std.specs.Io.KnownBytes.{Keeps}
 use Rattle.std.specs.List.{range_with_len}
 use Rattle.aegis_storage.specs.Bytes.{IfKnown}
 use Rattle.aegis_storage.specs.Disk.{Adds, Change, Crashed, Disk, IsSynced, IsWithin, MakesCertain, MakesSynced, Size, Spoils, Write, Writes, after, certain, changed}
-use Rattle.aegis_storage.specs.Journal.{IsJournal, IsNoForgery, RecoversUnlessForged}
+use Rattle.aegis_storage.specs.Journal.{IsJournal, IsNoOtherJournal, RecoversUnlessForged}
 use Rattle.aegis_storage.specs.declared.steps.Order.{Order}
 use Rattle.aegis_storage.specs.declared.steps.Order.TheVariants.{Commit, Recovery}
 use Rattle.aegis_storage.specs.declared.steps.Step.{Step}
@@ -127,7 +127,7 @@ pub record Recoverable (key context xs : List ℕ) (writes found : Writes) (s j 
   pub storage : Crashed s.disk s.bytes
   pub journal : Crashed j.disk j.bytes
   pub recovers : RecoversUnlessForged key context xs writes (Some s.disk) (Some j.disk)
-  pub no_forgery : IsNoForgery key context writes j.bytes
+  pub no_other_journal : IsNoOtherJournal key context writes j.bytes
   pub redone : AreRedone key context j.bytes found
 
 -- ---- storages whose bytes and whose disks may be known

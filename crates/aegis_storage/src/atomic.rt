@@ -1,7 +1,8 @@
 //! Writes that are all there after a crash, or none of them.
 
-ghost use Rattle.std.specs.Prelude.{◌≡◌, ◌<◌, ◌≤◌, [], IfSome, List, OnOk, Some, length, ℕ};
+ghost use Rattle.std.specs.Prelude.{◌≡◌, ◌<◌, ◌≤◌, [], IfErr, IfSome, IsOk, List, OnOk, Some, length, ℕ};
 ghost use Rattle.aegis_storage.specs.Disk.{WritesAll, after_writes, certain, writes_of};
+ghost use Rattle.aegis_storage.specs.Errors.{IsCommitError};
 ghost use Rattle.aegis_storage.specs.Journal.{IsAtRest, KeepsBeginning, RecoversUnlessForged};
 
 use crate::driver::take_steps;
@@ -19,7 +20,7 @@ use std::io::ErrorKind;
 ///
 /// The storage and the journal must be at rest: all that they hold is synced, and the journal is empty, as `commit` and
 /// `recover` leave them with `Ok`. The journal authenticates the writes and does not encrypt them. The calls are the
-/// steps of [`crate::commit_step`]. With no writes nothing is called.
+/// steps of [`crate::commit_step`]. With no writes it returns `Ok`, and nothing is changed.
 ///
 /// Under one key a nonce must be used for one journal only. The context names the storage; it has at most
 /// [`MAX_CONTEXT_BYTES`]. The beginning is what the journal begins with. Whatever a crash leaves, a journal with more
@@ -44,6 +45,8 @@ pub fn commit<S: Storage, J: Storage, A: Allocator + Copy>(
         (WritesAll (S.bytes storage.old) (S.bytes storage.new) (writes_of writes.now)) }
     ensures empty { OnOk result (0 < length writes.now
         → IfSome (J.bytes journal.old) (λ js. length js ≡ 0)) }
+    ensures nothing { length writes.now ≡ 0
+        → IsOk result × (storage.new ≡ storage.old) × (journal.new ≡ journal.old) }
     ensures occupied { IfSome (J.bytes journal.old) (λ js. 0 < length js
         → (storage.new ≡ storage.old) × (journal.new ≡ journal.old)) }
     ensures recovers { (xs : List ℕ) → IsAtRest (S.disk storage.old) (J.disk journal.old) xs
@@ -55,6 +58,8 @@ pub fn commit<S: Storage, J: Storage, A: Allocator + Copy>(
         → IsAtRest (S.disk storage.old) (J.disk journal.old) xs
         → IsAtRest (S.disk storage.new) (J.disk journal.new)
         (after_writes (writes_of writes.now) xs)) }
+    ensures cause { IfErr result (IsCommitError S.errors J.errors (J.bytes journal.old)
+        (writes_of writes.now)) }
 {
     if writes.is_empty() {
         return Ok(());

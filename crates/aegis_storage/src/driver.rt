@@ -1,6 +1,6 @@
 //! Taking the steps of a commit or of a recovery.
 
-ghost use Rattle.std.specs.Prelude.{◌≡◌, ◌≤◌, drop, IfOk, IfSome, List, OnErr, OnOk, length, ℕ};
+ghost use Rattle.std.specs.Prelude.{◌≡◌, ◌≤◌, ◌⊎◌, drop, IfErr, IfOk, IfSome, List, OnErr, OnOk, length, ℕ};
 ghost use Rattle.aegis_storage.specs.Disk.{Writes, WritesAll};
 ghost use Rattle.aegis_storage.specs.Journal.{AreWithin, entries};
 ghost use Rattle.aegis_storage.specs.Steps.{Fails, Has, Held, IsNext, Knows, LeavesOne, StopsAt, Taken, journal_effect, made_with, steps_of, storage_effect};
@@ -38,6 +38,7 @@ fn journal_step<J: Storage>(step: Step, journal: &mut J, whole: &[u8]) -> io::Re
         (Fails (journal_effect whole.now step) (J.disk journal.old) (J.disk journal.new)) }
     ensures taken { OnOk result (Has (journal_effect whole.now step) (J.bytes journal.old)
         (J.bytes journal.new) (J.disk journal.old) (J.disk journal.new)) }
+    ensures cause { IfErr result J.errors }
 {
     let (beginning, rest) = whole.split_at(whole.len().min(BEGINNING_BYTES));
     match step {
@@ -64,6 +65,7 @@ fn storage_step<'a, S: Storage>(step: Step, storage: &mut S, rest: &'a [u8]) -> 
     ensures left { IfOk result (λ after. (found : Writes) (made : ℕ) → AreWithin found
         → rest.now ≡ entries (drop made found) → IsNext step made (length found)
         → after.now ≡ entries (drop (made_with step made) found)) }
+    ensures cause { IfErr result S.errors }
 {
     match step {
         Step::MakeWrite(_number) => {
@@ -110,6 +112,7 @@ pub fn take_steps<S: Storage, J: Storage>(
     ensures journal { OnOk result ((found : Writes) → AreWithin found → content.now ≡ entries found
         → (h : Held) → Knows h (J.bytes journal.old) (J.disk journal.old) → LeavesOne
         (Taken (journal_effect whole.now) (steps_of order (length found)) h) (J.disk journal.new)) }
+    ensures cause { IfErr result (λ e. S.errors e ⊎ J.errors e) }
 {
     let writes = count_writes(content);
     let mut rest = content;

@@ -1,11 +1,12 @@
 //! The bytes of a journal: a beginning of the caller's, a nonce, the writes, each as its place, its length and its
 //! bytes, and their MAC. Nothing is encrypted.
 
-ghost use Rattle.std.specs.Prelude.{◌≡◌, ◌≢◌, ◌+◌, ◌<◌, ◌≤◌, ◌^◌, ◌++◌, [], IfNone, IfOk, IfSome, IsTrue, List, OnOk, length, ℕ};
+ghost use Rattle.std.specs.Prelude.{◌≡◌, ◌≢◌, ◌+◌, ◌<◌, ◌≤◌, ◌^◌, ◌⊎◌, ◌++◌, [], IfErr, IfNone, IfOk, IfSome, IsTrue, List, OnOk, length, ℕ};
 ghost use Rattle.std.specs.Int.{to_le_bytes, w64};
 ghost use Rattle.aegis_base.specs.Context.{Stands};
 ghost use Rattle.aegis_base.specs.Variant.{Aegis128L};
 ghost use Rattle.aegis_storage.specs.Disk.{Writes, writes_of};
+ghost use Rattle.aegis_storage.specs.Errors.{IsOutOfMemory, IsTooLong};
 ghost use Rattle.aegis_storage.specs.Journal.{AreWithin, IsContent, IsFramed, IsJournal, authenticated, entries, entry, framed};
 
 use crate::pending::PendingWrite;
@@ -62,7 +63,7 @@ fn append_writes<A: Allocator>(
     Ok(())
 }
 
-/// Returns the journal of the writes. The error is that it would be too long, or want of memory.
+/// Returns the journal of the writes. The error is `InvalidInput` if it would be too long, or `OutOfMemory`.
 pub fn journal_bytes<A: Allocator + Copy>(
     alloc: A,
     key: &Key,
@@ -77,6 +78,7 @@ pub fn journal_bytes<A: Allocator + Copy>(
     ensures whole { IfOk result
         (λ made. IsJournal key.now context.now (writes_of writes.now) made.items) }
     ensures size { IfOk result (λ made. length made.items ≤ MAX_JOURNAL_BYTES) }
+    ensures cause { IfErr result (λ e. IsOutOfMemory e ⊎ IsTooLong (writes_of writes.now) e) }
 {
     let mut journal = Vec::new(alloc);
     journal.extend_from_slice(beginning)?;

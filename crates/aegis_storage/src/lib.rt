@@ -6,7 +6,7 @@
 //!
 //! What a crash may leave is a definition, `Crashed` of `specs/Disk.antt`: the synced bytes, any bytes at the places
 //! that were written since, and one of the sizes. The promise is `RecoversUnlessForged` of `specs/Journal.antt`. Its
-//! one premise on AEGIS is that the journal which the crash leaves is no forgery (`IsNoForgery`).
+//! premise is that the crash leaves no other whole journal, neither a forgery nor an older one (`IsNoOtherJournal`).
 //!
 //! ```
 //! let mut writes = Vec::new(alloc);

@@ -1,8 +1,9 @@
 //! What a storage and its journal hold after a crash.
 
-ghost use Rattle.std.specs.Prelude.{◌≡◌, ◌≤◌, IfSome, List, OnOk, length, ℕ};
+ghost use Rattle.std.specs.Prelude.{◌≡◌, ◌≤◌, IfErr, IfSome, List, OnOk, length, ℕ};
 ghost use Rattle.aegis_storage.specs.Disk.{Writes};
-ghost use Rattle.aegis_storage.specs.Journal.{AreWithin, IsNoForgery, KeepsBeginning, RecoversUnlessForged, RecoversKnown, RestsAtEither, entries};
+ghost use Rattle.aegis_storage.specs.Errors.{IsRecoverError};
+ghost use Rattle.aegis_storage.specs.Journal.{AreWithin, IsNoOtherJournal, KeepsBeginning, RecoversUnlessForged, RecoversKnown, RestsAtEither, entries};
 ghost use Rattle.aegis_storage.specs.Steps.{AreRedone};
 
 use crate::calls::read_all;
@@ -34,8 +35,9 @@ fn redone<'a>(key: &Key, context: &[u8], journal: &'a [u8]) -> &'a [u8]
 /// replaced by a synced copy, since an earlier sync may have failed, and its writes are made again. Any other journal,
 /// torn or of another storage, changes nothing. Then the journal is emptied.
 ///
-/// With `Ok` both are at rest. After an error, which is that of a call or `OutOfMemory`, nothing is lost: call it
-/// again. Memory is taken for the journal, whatever it holds.
+/// With `Ok` both are at rest. After an error nothing is lost: call it again. The error is that of a call, or
+/// `OutOfMemory`, or `InvalidData` if the journal has more than [`crate::MAX_STORAGE_BYTES`]. Memory is taken for the
+/// journal, whatever it holds.
 pub fn recover<S: Storage, J: Storage, A: Allocator + Copy>(
     alloc: A,
     storage: &mut S,
@@ -47,7 +49,7 @@ pub fn recover<S: Storage, J: Storage, A: Allocator + Copy>(
     ensures recovered { OnOk result (RecoversKnown key.now context.now (J.bytes journal.old)
         (S.bytes storage.old) (S.bytes storage.new)) }
     ensures recovers { (xs : List ℕ) (writes : Writes)
-        → IfSome (J.bytes journal.old) (IsNoForgery key.now context.now writes)
+        → IfSome (J.bytes journal.old) (IsNoOtherJournal key.now context.now writes)
         → RecoversUnlessForged key.now context.now xs writes
         (S.disk storage.old) (J.disk journal.old)
         → RecoversUnlessForged key.now context.now xs writes
@@ -55,10 +57,11 @@ pub fn recover<S: Storage, J: Storage, A: Allocator + Copy>(
     ensures beginning { (beginning : List ℕ) → KeepsBeginning beginning (J.disk journal.old)
         → KeepsBeginning beginning (J.disk journal.new) }
     ensures at_rest { OnOk result ((xs : List ℕ) (writes : Writes)
-        → IfSome (J.bytes journal.old) (IsNoForgery key.now context.now writes)
+        → IfSome (J.bytes journal.old) (IsNoOtherJournal key.now context.now writes)
         → RecoversUnlessForged key.now context.now xs writes
         (S.disk storage.old) (J.disk journal.old)
         → RestsAtEither (S.disk storage.new) (J.disk journal.new) xs writes) }
+    ensures cause { IfErr result (IsRecoverError S.errors J.errors (J.bytes journal.old)) }
 {
     let whole = read_all(alloc, journal)?;
     let content = redone(key, context, &whole);

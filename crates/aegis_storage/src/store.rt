@@ -1,10 +1,12 @@
 //! Where the bytes of a file are kept.
 
-ghost use Rattle.std.specs.Prelude.{◌≡◌, ◌+◌, ◌≤◌, ◌∷◌, [], IfOk, IfSome, List, None, OnErr, OnOk, Option, Some, length, ℕ};
+ghost use Rattle.std.specs.Prelude.{◌≡◌, ◌+◌, ◌≤◌, ◌∷◌, [], IfErr, IfOk, IfSome, List, None, OnErr, OnOk, Option, Some, length, ⊤, ℕ};
 ghost use Rattle.std.proofs.Common.{refl};
+ghost use Rattle.std.specs.declared.io.Error.{Error};
 ghost use Rattle.std.specs.Io.KnownBytes.{Keeps};
 ghost use Rattle.aegis_storage.specs.Bytes.{ResizesTo, TearsAt, WritesAt, part_at};
 ghost use Rattle.aegis_storage.specs.Disk.{Adds, Disk, IsPossible, IsSynced, MakesCertain, Size, Spoils, Write, certain};
+ghost use Rattle.aegis_storage.specs.Errors.{IsVectorError};
 
 use crate::bytes::put;
 use std::alloc::Allocator;
@@ -24,6 +26,9 @@ pub const MAX_STORAGE_BYTES: u64 = 9_223_372_036_854_775_807;
 /// Its ghost member `disk` is what a crash may leave of the bytes, where that is known: what was synced, and the
 /// changes since. A crash is an event of this model: a vector is certain of its items in the model, as a disk that
 /// writes at once would be, and is still lost when its process ends. For files `disk` is `None`.
+///
+/// Its ghost member `errors` has the errors that its calls may return. For a vector these are want of memory, and the
+/// end of what can be read; for a file they are any.
 pub trait Storage {
     // All the bytes, where they are known.
     ghost bytes: { Self → Option (List ℕ) } = { λ _. None };
@@ -31,16 +36,21 @@ pub trait Storage {
     // What a crash may leave of them, where that is known.
     ghost disk: { Self → Option Disk } = { λ _. None };
 
+    // Which errors the calls may return.
+    ghost errors: { Error → Type 0 } = { λ _. ⊤ };
+
     /// Returns the number of bytes.
     fn size(&self) -> io::Result<u64>
-        ensures { IfOk result (λ n. IfSome (bytes self.now) (λ xs. n ≡ length xs)) };
+        ensures size { IfOk result (λ n. IfSome (bytes self.now) (λ xs. n ≡ length xs)) }
+        ensures cause { IfErr result errors };
 
     /// Reads the bytes from `at` on until `out` is full. Returns an error if there are fewer, or if reading fails; the
     /// content of `out` is then any bytes.
     fn read_at(&self, at: u64, out: &mut [u8]) -> io::Result<()>
         requires { at + length out.old ≤ MAX_STORAGE_BYTES }
-        ensures { OnOk result (IfSome (bytes self.now)
-            (λ xs. out.new ≡ part_at xs at (length out.old))) };
+        ensures read { OnOk result (IfSome (bytes self.now)
+            (λ xs. out.new ≡ part_at xs at (length out.old))) }
+        ensures cause { IfErr result errors };
 
     /// Writes all of `part` over the bytes from `at` on. What lies past the end is added, and a gap is filled with
     /// zeros. After an error the bytes from `at` on may be any, as many as `part` has at most, and the others are as
@@ -54,7 +64,8 @@ pub trait Storage {
         ensures pending { OnOk result
             (Adds (disk self.old) (disk self.new) (Write at part.now ∷ [])) }
         ensures spoilt { OnErr result
-            (Spoils (disk self.old) (disk self.new) (Write at part.now ∷ [])) };
+            (Spoils (disk self.old) (disk self.new) (Write at part.now ∷ [])) }
+        ensures cause { IfErr result errors };
 
     /// Cuts the bytes off at `size`, or fills them up to it with zeros. After an error they are as they were. Until a
     /// sync, a crash may leave the one size or the other, and after an error for ever.
@@ -63,7 +74,8 @@ pub trait Storage {
         ensures resized { OnOk result (ResizesTo (bytes self.old) (bytes self.new) size) }
         ensures kept { OnErr result (Keeps (bytes self.old) (bytes self.new)) }
         ensures pending { OnOk result (Adds (disk self.old) (disk self.new) (Size size ∷ [])) }
-        ensures spoilt { OnErr result (Spoils (disk self.old) (disk self.new) (Size size ∷ [])) };
+        ensures spoilt { OnErr result (Spoils (disk self.old) (disk self.new) (Size size ∷ [])) }
+        ensures cause { IfErr result errors };
 
     /// Replaces what the storage holds by a copy of it that is synced: for a file, the copy is written under another
     /// name, synced, and renamed over the old one, and then the folder is synced. So all of it is certain with `Ok`,
@@ -75,7 +87,8 @@ pub trait Storage {
         ensures kept { Keeps (bytes self.old) (bytes self.new) }
         ensures certain { OnOk result
             (MakesCertain (bytes self.old) (disk self.old) (disk self.new)) }
-        ensures spoilt { OnErr result (Spoils (disk self.old) (disk self.new) []) };
+        ensures spoilt { OnErr result (Spoils (disk self.old) (disk self.new) []) }
+        ensures cause { IfErr result errors };
 
     /// Returns once a crash leaves all that was written since the last call that failed. For a file the system must
     /// ensure that; a vector's contract speaks of the model alone. After an error what was written may be lost for
@@ -83,7 +96,8 @@ pub trait Storage {
     fn sync(&mut self) -> io::Result<()>
         ensures kept { Keeps (bytes self.old) (bytes self.new) }
         ensures synced { OnOk result (IsSynced (disk self.old) (disk self.new)) }
-        ensures spoilt { OnErr result (Spoils (disk self.old) (disk self.new) []) };
+        ensures spoilt { OnErr result (Spoils (disk self.old) (disk self.new) []) }
+        ensures cause { IfErr result errors };
 
     /// What can be read is one of the contents that a crash may leave.
     ghost possible: { (storage : Self) → IsPossible (bytes storage) (disk storage) };
@@ -93,6 +107,8 @@ impl<A: Allocator> Storage for Vec<u8, A> {
     ghost bytes = { λ v. Some v.items };
 
     ghost disk = { λ v. Some (certain v.items) };
+
+    ghost errors = { IsVectorError };
 
     ghost possible = { λ v. record { base = v.items; of_lost = refl; parts = []; of_pending = tt; are = refl } };
 

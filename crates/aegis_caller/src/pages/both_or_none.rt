@@ -2,7 +2,7 @@
 
 ghost use Rattle.std.specs.Prelude.{◌≡◌, ◌+◌, ◌≤◌, ◌∷◌, [], IfOk, IfSome, List, OnOk, length, ℕ};
 ghost use Rattle.aegis_storage.specs.Disk.{Writes, writes_of};
-ghost use Rattle.aegis_storage.specs.Journal.{IsAtRest, IsNoForgery, RecoversUnlessForged, RestsAtEither};
+ghost use Rattle.aegis_storage.specs.Journal.{IsAtRest, IsNoOtherJournal, RecoversUnlessForged, RestsAtEither};
 ghost use Rattle.aegis_storage.specs.declared.store.TheConstants.{MAX_STORAGE_BYTES};
 
 use aegis::aegis128l::{Key, Nonce};
@@ -12,7 +12,7 @@ use std::alloc::Allocator;
 use std::io;
 
 /// Makes writes. Whatever it returns, a crash leaves a storage and a journal from which recovery makes all of them or
-/// none, unless it leaves a forged journal.
+/// none, unless it leaves another whole journal.
 pub fn write_all<S: Storage, J: Storage, A: Allocator + Copy>(
     alloc: A,
     storage: &mut S,
@@ -69,7 +69,7 @@ pub fn write_these<S: Storage, J: Storage, A: Allocator + Copy>(
 }
 
 /// Writes `first` at one place and `second` at another. Whatever it returns, a crash leaves a storage and a journal
-/// from which recovery makes both writes or none, unless it leaves a forged journal.
+/// from which recovery makes both writes or none, unless it leaves another whole journal.
 pub fn write_both<S: Storage, J: Storage, A: Allocator + Copy>(
     alloc: A,
     storage: &mut S,
@@ -103,7 +103,7 @@ pub fn open_both<S: Storage, J: Storage, A: Allocator + Copy>(
     key: &Key,
 ) -> io::Result<()>
     ensures { OnOk result ((xs : List ℕ) (writes : Writes)
-        → IfSome (J.bytes journal.old) (IsNoForgery key.now [] writes)
+        → IfSome (J.bytes journal.old) (IsNoOtherJournal key.now [] writes)
         → RecoversUnlessForged key.now [] xs writes (S.disk storage.old) (J.disk journal.old)
         → RestsAtEither (S.disk storage.new) (J.disk journal.new) xs writes) }
 {

@@ -57,7 +57,7 @@ pub fn add_one<S: Storage + Drop, J: Storage + Drop, N: Nonces + Drop, A: Alloca
 }
 
 /// Adds one to the counter, commits it, and returns its new number. Whatever it returns, a crash leaves the number or
-/// the next one, unless it leaves a forged journal.
+/// the next one, unless it leaves another whole journal.
 pub fn count<S: Storage + Drop, J: Storage + Drop, N: Nonces + Drop, A: Allocator + Copy>(
     pages: &mut SealedPages<S, J, N, A>,
 ) -> Result<u64, PagesError>

@@ -3,7 +3,7 @@
 ghost use Rattle.std.specs.Prelude.{◌≡◌, ◌+◌, ◌*◌, ◌<◌, ◌≤◌, IfOk, IfSome, List, OnErr, OnOk, length, ℕ};
 ghost use Rattle.aegis_storage.specs.Bytes.{overwritten, part_at};
 ghost use Rattle.aegis_base.specs.Variant.{Aegis256};
-ghost use Rattle.aegis_pages.specs.Commits.{IsHonest, RecoversContentsUnlessForged, RecoversOneUnlessForged};
+ghost use Rattle.aegis_pages.specs.Commits.{MakesNoOther, RecoversContentsUnlessForged, RecoversOneUnlessForged};
 ghost use Rattle.aegis_pages.specs.OpenFile.{HasCommitted, HasContents, IsStoredAs, OpensAtOne};
 
 use aegis_pages::laws::{others_are_kept, stored_is_committed};
@@ -89,7 +89,7 @@ pub fn write_row_or_forget<
 }
 
 /// Commits the rows that were written. Whatever it returns, a crash leaves a storage and a journal from which
-/// [`open_table`] opens the table as it was at the last commit, or as it is now, unless it leaves a forged journal.
+/// [`open_table`] opens the table as it was at the last commit or as it is now, unless it leaves another whole journal.
 pub fn commit_rows<S: Storage + Drop, J: Storage + Drop, N: Nonces + Drop, A: Allocator + Copy>(
     pages: &mut SealedPages<S, J, N, A>,
 ) -> Result<(), PagesError>
@@ -113,7 +113,8 @@ pub fn open_table<S: Storage + Drop, J: Storage + Drop, N: Nonces + Drop, A: All
     ensures { IfOk result (λ pages. (before now : List ℕ)
         → (batch : RecoversContentsUnlessForged Aegis256 key.now before now
         (S.disk storage) (J.disk journal))
-        → IfSome (J.bytes journal) (IsHonest batch) → OpensAtOne pages before now) }
+        → IfSome (S.bytes storage) (λ file. IfSome (J.bytes journal) (MakesNoOther batch file))
+        → OpensAtOne pages before now) }
 {
     SealedPages::open(alloc, storage, journal, nonces, key)
 }

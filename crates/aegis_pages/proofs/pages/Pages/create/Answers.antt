@@ -10,7 +10,7 @@ pub returns-in_err-begin_journal-clause-refused : goal.returns-in_err-begin_jour
 returns-in_err-begin_journal-clause-refused g c =
     let p = err_from_is_err_and c.from_residual.result c.from_residual.ensures.1 in
     let size : IsPageSize c.args.page_bytes = search rules in
-    rw (p.1, p.2) (create_begins c.args.page_bytes _ size _ c.in_err-begin_journal.ensures.refused)
+    rw (p.1, p.2) (create_begins g.N.Nonces.errors c.args.page_bytes _ size _ c.in_err-begin_journal.ensures.refused)
 
 pub invariant_of-result : goal.invariant_of-result
 invariant_of-result g c =

@@ -3,6 +3,7 @@ use Rattle.std.proofs.lemmas.Result.{err_from_is_err_and}
 use Rattle.aegis_pages.specs.Layouts.{Layout, layout_of}
 use Rattle.aegis_pages.specs.OpenFile.{HasContents, OpensAtOne, Has, IsKnown}
 use Rattle.aegis_pages.specs.SealedPages.{IsFileOf}
+use Rattle.aegis_pages.proofs.AcceptFacts.{own_is_made}
 use Rattle.aegis_pages.proofs.KnownFacts.{only_error}
 use Rattle.aegis_pages.proofs.RecoveryFacts.{committed_batch, opens_at_one, opens_held}
 use Rattle.aegis_pages.proofs.pages.Pages.open.Goals as goal
@@ -26,7 +27,7 @@ returns-clause-contents g c empty =
     c.in_ok-header.ensures.header.is (c.in_ok-header.ensures.kept empty))
 
 pub returns-clause-recovered : goal.returns-clause-recovered
-returns-clause-recovered g c before now batch honest =
+returns-clause-recovered g c before now batch made =
     let header = c.in_ok-header.header in
     subst (λ (l : Layout). OpensAtOne (record {
       layout = l;
@@ -40,12 +41,12 @@ returns-clause-recovered g c before now batch honest =
       broken = false;
     }) before now) (sym c.new-layout.ensures)
     (opens_at_one (layout_of g.L.LaneState.VARIANT c.args.key.now header) header.counter header.len c.new.result.entries _ _ _ before now g.met.L.LaneState.one_two_or_four c.new.ensures.none
-    c.in_ok-header.ensures.header.is (g.met.S.Storage.possible c.recover_file.new.storage) (c.in_ok-header.ensures.rests before now batch honest))
+    c.in_ok-header.ensures.header.is (g.met.S.Storage.possible c.recover_file.new.storage) (c.in_ok-header.ensures.rests before now batch made))
 
 pub returns-clause-committed : goal.returns-clause-committed
 returns-clause-committed g c contents has =
     let found = committed_batch g.L.LaneState.VARIANT c.args.key.now _ _ (g.J.Storage.bytes c.args.journal) contents (g.met.J.Storage.possible c.args.journal) has in
-    either (returns-clause-recovered g c contents contents found.0 found.1)
+    either (returns-clause-recovered g c contents contents found.0 (own_is_made _ _ _ _ _ _ (g.S.Storage.bytes c.args.storage) _ found.0 found.1))
 
 pub returns-in_err-header-clause-accepts : goal.returns-in_err-header-clause-accepts
 returns-in_err-header-clause-accepts g c left =
