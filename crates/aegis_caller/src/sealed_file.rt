@@ -1,19 +1,20 @@
 //! Sealed files in memory.
 
-ghost use Rattle.std.specs.Prelude.{◌≡◌, ◌<◌, ◌≤◌, IfErr, IfOk, List, length, ℕ};
+ghost use Rattle.std.specs.Prelude.{◌≡◌, ◌+◌, ◌*◌, ◌<◌, ◌≤◌, IfErr, IfOk, List, length, ℕ};
 ghost use Rattle.aegis_base.specs.declared.error.TheConstants.{MAX_AEAD_BYTES};
 ghost use Rattle.aegis.specs.RecordStream.{start_at};
 ghost use Rattle.aegis_files.specs.Range.{AreFrom, AreContentsFrom, part_of, part_of_contents};
 ghost use Rattle.aegis.specs.declared.record.error.RecordError.{RecordError};
 ghost use Rattle.aegis.specs.declared.record.version.Version.TheVariants.{Second};
-ghost use Rattle.aegis_files.specs.SealedFile.{IsFileOf, IsSealedFile};
+ghost use Rattle.aegis_files.specs.SealedFile.{IsFileInPieces, IsFileOf, IsSealedFile, pieces_in};
 
 use aegis::aegis256::Key;
 use aegis::record::{MAX_CONTEXT_BYTES, RecordError};
+use aegis_files::laws::one_contents;
 use aegis_files::{ContentsRange, FileError, open_range, open_stream, rekey_stream, seal_stream};
 use std::alloc::Allocator;
 
-/// Seals contents, and returns its file.
+/// Seals contents, and returns the file: it has 65 bytes more than the contents, and 37 for each piece of 65,536 bytes.
 pub fn seal_contents<A: Allocator + Copy>(
     alloc: A,
     key: &Key,
@@ -22,8 +23,12 @@ pub fn seal_contents<A: Allocator + Copy>(
     contents: &[u8],
 ) -> Result<Vec<u8, A>, FileError>
     requires { length context.now ≤ MAX_CONTEXT_BYTES }
-    ensures { IfOk result
-        (λ file. IsFileOf key.now prefix.now context.now contents.now file.items) }
+    ensures sealed { IfOk result
+        (λ file. IsFileInPieces key.now prefix.now context.now contents.now file.items) }
+    ensures opens { IfOk result
+        (λ file. IsSealedFile key.now context.now contents.now file.items) }
+    ensures size { IfOk result (λ file. length file.items
+        ≡ 65 + 37 * pieces_in (length contents.now) + length contents.now) }
 {
     let mut file = Vec::new(alloc);
     let mut input = contents;
@@ -49,6 +54,22 @@ pub fn open_contents<A: Allocator + Copy>(
     let mut input = file;
     open_stream(alloc, key, context, &mut input, &mut contents)?;
     Ok(contents)
+}
+
+/// Seals contents, and opens the file again. That returns the contents, since the file has no others.
+pub fn sealed_and_opened<A: Allocator + Copy>(
+    alloc: A,
+    key: &Key,
+    prefix: &[u8; 24],
+    context: &[u8],
+    contents: &[u8],
+) -> Result<Vec<u8, A>, FileError>
+    requires { length context.now ≤ MAX_CONTEXT_BYTES }
+    ensures { IfOk result (λ opened. opened.items ≡ contents.now) }
+{
+    one_contents();
+    let file = seal_contents(alloc, key, prefix, context, contents)?;
+    open_contents(alloc, key, context, &file)
 }
 
 /// Opens a part of the contents, and returns it: `records` are the bytes of the file from the record at the part's
@@ -85,8 +106,8 @@ pub fn open_part<A: Allocator + Copy>(
     Ok(part)
 }
 
-/// Seals the contents of a file anew under another key and a new prefix, and returns the new file. The stream of an
-/// intact file is rejected only if memory runs out.
+/// Seals the contents of a file anew under another key and a new prefix, and returns the new file, which has the same
+/// length. The stream of an intact file is rejected only if memory runs out.
 pub fn rekey_file<A: Allocator + Copy>(
     alloc: A,
     key: &Key,
@@ -99,6 +120,7 @@ pub fn rekey_file<A: Allocator + Copy>(
     ensures rekeyed { IfOk result (λ new_file. (contents : List ℕ)
         × IsSealedFile key.now context.now contents file.now
         × IsFileOf new_key.now prefix.now context.now contents new_file.items) }
+    ensures size { IfOk result (λ new_file. length new_file.items ≡ length file.now) }
     ensures accepted { IfErr result (λ e. (contents : List ℕ)
         → IsSealedFile key.now context.now contents file.now
         → (why : RecordError) → e ≡ FileError.Stream why → why ≡ RecordError.OutOfMemory) }

@@ -1,5 +1,5 @@
 -- A file that is opened: its facts, by those of the records after its header.
-use Rattle.std.proofs.Common.{◌≡◌, ◌≢◌, ◌⊎◌, ℕ, ◌<◌, ◌≤◌, true, List, [], ◌++◌, Option, Some, IfErr, IfSome, OnOk, Result, Ok, Err, drop, length, take, refl, sym, ap, subst, ◌∙◌, append_assoc, arith, inl, inr}
+use Rattle.std.proofs.Common.{◌≡◌, ◌≢◌, ◌⊎◌, ℕ, ◌+◌, ◌<◌, ◌≤◌, true, List, [], ◌++◌, Option, Some, IfErr, IfSome, OnOk, Result, Ok, Err, drop, length, take, refl, sym, ap, subst, ◌∙◌, append_assoc, arith, inl, inr}
 use Rattle.std.proofs.KnownBytes.{Appends-nil}
 use Rattle.std.proofs.lemmas.List.{append-nil, drop_at, length-append, length-drop, length-take, take-append-drop, take_all, take_at}
 use Rattle.std.specs.Io.KnownBytes.{Appends, Consumes, IsAtEnd}
@@ -12,7 +12,7 @@ use Rattle.aegis.specs.Progress.{last_flag}
 use Rattle.aegis.specs.Records.{AreRecords, IsFault, sealed}
 use Rattle.aegis.specs.RecordStream.{first_position, frames, header, position_after, start_at}
 use Rattle.aegis.proofs.Frames.{one_fault}
-use Rattle.aegis.proofs.Lengths.{start_after}
+use Rattle.aegis.proofs.Lengths.{length-frames, start_after}
 use Rattle.aegis.proofs.Sealed.{sealed-is}
 use Rattle.aegis.proofs.Stepwise.{after_a_stream, begun_none}
 use Rattle.aegis_files.specs.declared.error.FileError.{FileError}
@@ -22,7 +22,7 @@ use Rattle.aegis_files.specs.declared.range.ContentsRange.{ContentsRange}
 use Rattle.aegis_files.specs.Opening.{FailsWith, RefusesFile}
 use Rattle.aegis_files.specs.Range.{AreFrom, AreContentsFrom, OpensRange, RefusesFrom, StopsRange, part_of, part_of_contents}
 use Rattle.aegis_files.specs.SealedFile.{HasNoHead, LeavesSome, IsReadError, IsSealedFile, IsWriteError}
-use Rattle.aegis_files.proofs.Pieces.{at_end, concat-short, read_some, two_prefixes}
+use Rattle.aegis_files.proofs.Pieces.{at_end, concat-short, read_some, some_with, two_prefixes}
 
 -- a stream's records follow its header
 pub all_records : (key prefix context : List ℕ) (flag : ℕ) (ms : List (List ℕ)) (bytes : List ℕ) → AreFrom key prefix context (first_position Second) flag ms [] bytes → flag ≡ 1
@@ -141,9 +141,6 @@ pub under_err : {T : Type 0} (P : FileError → List ℕ → Type 0) (prefix : L
     → IfErr r (λ e. IfSome left (λ bytes. P e (prefix ++ (header Second ++ bytes)))) → IfErr r (λ e. IfSome file (P e))
 under_err P prefix file left r read p = grind (arith, under)
 
-pub some_with : (a : Option (List ℕ)) (P Q : List ℕ → Type 0) → ((x : List ℕ) → P x → Q x) → IfSome a P → IfSome a Q
-some_with a P Q so p = grind arith
-
 -- all of the contents, as a part
 abbrev pub all : ContentsRange
 all = record { position = first_position Second; skip = 0; length = 18446744073709551615 }
@@ -218,6 +215,26 @@ ends_file key prefix context opened file left left' old new (Ok x) long read o e
             };
           },
         )
+
+-- its stream is within the limit
+pub ends_within : {T : Type 0} (key prefix context : List ℕ) (opened : OpenedRange) (file left left' old new : Option (List ℕ)) (r : Result T FileError) → length prefix ≡ 24
+    → Consumes file left (prefix ++ header Second) → IfSome left (λ bytes. OpensRange key prefix context all opened bytes left' old new)
+    → OnOk r (IsAtEnd left') → OnOk r (IfSome file (λ f. length f ≤ 24 + MAX_AEAD_BYTES))
+ends_within key prefix context opened file left left' old new (Err e) long read o end = tt
+ends_within key prefix context opened file left left' old new (Ok x) long read o end = under _ prefix file left read (some_with left _ _ (λ bytes s.
+    omega (
+      arith,
+      long,
+      s.fits,
+      ap start_at s.ended,
+      start_after (first_position Second) s.messages,
+      ap length s.records.are,
+      ap length (at_end s.rest left' s.read end),
+      length-frames (sealed key prefix context) (sealed-is key prefix context) (first_position Second) (last_flag opened.is_last) s.messages,
+      length-append (frames (sealed key prefix context) (first_position Second) (last_flag opened.is_last) s.messages) s.rest,
+      length-append (header Second) bytes,
+      length-append prefix (header Second ++ bytes),
+    )) o)
 
 pub fails_end : {T : Type 0} (key prefix context : List ℕ) (opened : OpenedRange) (file left left' old new : Option (List ℕ)) (r : Result T FileError) → length prefix ≡ 24
     → Consumes file left (prefix ++ header Second) → IfSome left (λ bytes. OpensRange key prefix context all opened bytes left' old new) → IfErr r (LeavesSome left')

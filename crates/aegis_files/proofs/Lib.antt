@@ -1,6 +1,9 @@
+pub mod Cutting
 pub mod Files
 pub mod Filling
 pub mod NextRecord
+pub mod OneFile
+pub mod PieceLaws
 pub mod Pieces
 pub mod Ranges
 pub mod Reaching

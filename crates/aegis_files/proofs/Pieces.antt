@@ -4,7 +4,7 @@ use Rattle.std.proofs.KnownBytes.{Appends-kept}
 use Rattle.std.proofs.lemmas.List.{append-nil, drop_at, length-append, length-drop, length-take, take_all, take_at}
 use Rattle.std.proofs.lemmas.List.Folds.{concat-append}
 use Rattle.std.proofs.Math.Seq.{drop-nil, take-add, take-nil}
-use Rattle.std.specs.List.{AllByRecursion, concat}
+use Rattle.std.specs.List.{concat}
 use Rattle.std.specs.Io.KnownBytes.{Appends, Consumes, IsAtEnd, Keeps}
 use Rattle.aegis.specs.declared.record.position.RecordPosition.{RecordPosition}
 use Rattle.aegis.specs.Progress.{Begun, Progress}
@@ -15,11 +15,6 @@ concat-push ms m = concat-append ms (m ∷ []) ∙ ap (λ (l : List ℕ). concat
 
 pub slice_end : (bytes : List ℕ) (start : ℕ) → take (length bytes - start) (drop start bytes) ≡ drop start bytes
 slice_end bytes start = let len = length-drop start bytes in take_all (length bytes - start) (drop start bytes) (omega arith)
-
--- a property of each message, and of one more
-pub all_push : (P : List ℕ → Type 0) (ms : List (List ℕ)) (m : List ℕ) → AllByRecursion P ms → P m → AllByRecursion P (ms ++ m ∷ [])
-all_push P [] m all p = (p, tt)
-all_push P (n ∷ ms) m all p = (all.0, all_push P ms m all.1 p)
 
 -- messages are shorter than their records
 pub concat-short : (ms : List (List ℕ)) → length (concat ms) ≤ frames_length ms
@@ -40,6 +35,9 @@ counted p ms bytes b = grind (arith, counted_after)
 pub read_some : (all left : Option (List ℕ)) (taken : List ℕ) (P : List ℕ → Type 0) → Consumes all left taken
     → ((f rest : List ℕ) → all ≡ Some f → f ≡ taken ++ rest → left ≡ Some rest → P f) → IfSome all P
 read_some all left taken P read go = grind arith
+
+pub some_with : (a : Option (List ℕ)) (P Q : List ℕ → Type 0) → ((x : List ℕ) → P x → Q x) → IfSome a P → IfSome a Q
+some_with a P Q so p = grind arith
 
 pub at_end : (rest : List ℕ) (left : Option (List ℕ)) → left ≡ Some rest → IsAtEnd left → rest ≡ []
 at_end rest left e end = grind arith

@@ -1,7 +1,7 @@
 -- The facts that hold between two records that are sealed anew, and those that hold if that fails.
 use Rattle.std.proofs.Common.{◌≡◌, ◌⊎◌, ℕ, ◌+◌, ◌≤◌, Bool, true, false, List, [], ◌∷◌, ◌++◌, Option, Some, IfSome, OnOk, Result, drop, length, take, refl, sym, ap, subst, ◌∙◌, append_assoc, arith, inl, inr}
 use Rattle.std.proofs.KnownBytes.{Appends-nil, Appends-trans, Consumes-nil, Consumes-trans}
-use Rattle.std.proofs.lemmas.List.{append-nil, take-append-drop}
+use Rattle.std.proofs.lemmas.List.{append-nil, length-append, take-append-drop}
 use Rattle.std.specs.Io.KnownBytes.{Appends, Consumes, IsAtEnd}
 use Rattle.std.specs.List.{concat}
 use Rattle.aegis_base.specs.declared.error.TheConstants.{MAX_AEAD_BYTES}
@@ -13,13 +13,13 @@ use Rattle.aegis.specs.Records.{sealed}
 use Rattle.aegis.specs.RecordStream.{AreWithin, first_position, beginning, header, limit}
 use Rattle.aegis_files.specs.declared.error.FileError.{FileError}
 use Rattle.aegis_files.specs.declared.error.FileError.TheVariants.{Stream}
-use Rattle.aegis_files.specs.Opening.{AreInFile, RefusesFile, RekeysBeginning}
+use Rattle.aegis_files.specs.Opening.{AreInFile, IsRekeyed, RefusesFile, RekeysBeginning}
 use Rattle.aegis_files.specs.Range.{AreFrom}
 use Rattle.aegis_files.specs.SealedFile.{FailsNext, LeavesSome, ReadsNext, IsFileOf, IsSealedFile, IsWriteError}
-use Rattle.aegis_files.proofs.Files.{refuses_file, refuses_more, some_with, under, known_head, no_head, under_err}
-use Rattle.aegis_files.proofs.Pieces.{at_end, read_some}
+use Rattle.aegis_files.proofs.Files.{refuses_file, refuses_more, under, known_head, no_head, under_err}
+use Rattle.aegis_files.proofs.Pieces.{at_end, read_some, some_with}
 use Rattle.aegis_files.proofs.Ranges.{fails_from, refuses_from, unwritten}
-use Rattle.aegis_files.proofs.Reaching.{Reaches, are_from, reaches_more, reaches_none, reaches_start, reaches_stream, reaches_version}
+use Rattle.aegis_files.proofs.Reaching.{Reaches, are_from, reaches_more, reaches_none, reaches_size, reaches_start, reaches_stream, reaches_version}
 use Rattle.aegis_files.proofs.Sealing.{opens_whole}
 
 -- The records `taken` of the old file were read. Their messages are sealed anew, as the records `made`: of the new prefix, the header
@@ -111,26 +111,77 @@ whole_read p q p' key prefix new_key new_prefix context f stream left left' old 
   file_is = refl;
 }
 
-pub rekeys_end : (p p' q : Progress) (key prefix new_key new_prefix context : List ℕ) (stream left left' old new new' : Option (List ℕ)) (pending m out : List ℕ)
-    → RekeysSome p q key prefix new_key new_prefix context stream left old new pending → ReadsNext p p' left left' true m
+pub rekeys_end : (p p' q : Progress) (key prefix new_key new_prefix context : List ℕ) (stream left left' old new new' : Option (List ℕ)) (pending m out : List ℕ) → length prefix ≡ 24 → length new_prefix ≡ 24
+    → RekeysSome p q key prefix new_key new_prefix context stream left old new pending → ReadsNext p p' left left' true m → start_of p' ≤ MAX_AEAD_BYTES
     → IsAtEnd left' → out ≡ pending ++ record_of q 1 m → Appends new new' out
-    → IfSome stream (λ f. (contents : List ℕ) × IsFileOf key prefix context contents (prefix ++ (header Second ++ f))
-    × (file : List ℕ) × IsFileOf new_key new_prefix context contents file × Appends old new' file)
-rekeys_end p p' q key prefix new_key new_prefix context stream left left' old new new' pending m out s next end out_is written =
-    read_some stream left' (s.taken ++ record_of p 1 m) _ (Consumes-trans stream left left' s.taken (record_of p 1 m) s.read next.read) (λ f rest known is after_it. (
-      concat (s.messages ++ m ∷ []),
-      whole_read p q p' key prefix new_key new_prefix context f stream left left' old new pending m rest s next end is after_it,
-      new_prefix ++ (header Second ++ (s.made ++ record_of q 1 m)),
+    → IfSome stream (λ f. (file : List ℕ) × IsRekeyed key new_key new_prefix context (prefix ++ (header Second ++ f)) file × Appends old new' file)
+unfolding whole_read
+rekeys_end p p' q key prefix new_key new_prefix context stream left left' old new new' pending m out long new_long s next fits end out_is written =
+    read_some stream left' taken _ (Consumes-trans stream left left' s.taken (record_of p 1 m) s.read next.read) (λ f rest known is after_it.
+    let whole = whole_read p q p' key prefix new_key new_prefix context f stream left left' old new pending m rest s next end is after_it in
+    let size : length f ≡ length taken = ap length (is ∙ ap (λ (l : List ℕ). taken ++ l) (at_end rest left' after_it end) ∙ append-nil taken) in (
+      new_prefix ++ (header Second ++ made),
       record {
-        messages = s.messages ++ m ∷ [];
-        stream = header Second ++ (s.made ++ record_of q 1 m);
-        are = reaches_stream new_key new_prefix context (after q true m) (s.messages ++ m ∷ []) (s.made ++ record_of q 1 m)
-            (sealed_next p p' q (after q true m) true key prefix new_key new_prefix context stream left left' old new pending m s next refl);
-        contents_is = refl;
-        file_is = refl;
+        contents = concat ms;
+        old = record { prefix = prefix; long = long; is = whole };
+        new = record {
+          messages = ms;
+          stream = header Second ++ made;
+          are = reaches_stream new_key new_prefix context (after q true m) ms made sealed_all;
+          contents_is = refl;
+          file_is = refl;
+        };
+        pieces = refl;
+        size =
+            omega (
+              arith,
+              long,
+              new_long,
+              size,
+              same_size,
+              length-append prefix (header Second ++ f),
+              length-append (header Second) f,
+              length-append new_prefix (header Second ++ made),
+              length-append (header Second) made,
+            );
+        fits =
+            omega (
+              arith,
+              long,
+              size,
+              fits,
+              reaches_size key prefix context (first_position Second) p' true ms taken opened_all,
+              length-append prefix (header Second ++ f),
+              length-append (header Second) f,
+            );
       },
       subst (Appends old new') (sym (joined new_prefix s.made s.sent pending (record_of q 1 m) out s.all out_is)) (Appends-trans old new new' s.sent out s.written written),
     ))
+  where
+    ms : List (List ℕ)
+    ms = s.messages ++ m ∷ []
+
+    taken : List ℕ
+    taken = s.taken ++ record_of p 1 m
+
+    made : List ℕ
+    made = s.made ++ record_of q 1 m
+
+    opened_all : Reaches key prefix context (first_position Second) p' true ms taken
+    opened_all = opened_next p p' q true key prefix new_key new_prefix context stream left left' old new pending m s next
+
+    sealed_all : Reaches new_key new_prefix context (first_position Second) (after q true m) true ms made
+    sealed_all = sealed_next p p' q (after q true m) true key prefix new_key new_prefix context stream left left' old new pending m s next refl
+
+    same_size : length taken ≡ length made
+    same_size =
+        omega (
+          arith,
+          reaches_size key prefix context (first_position Second) p' true ms taken opened_all,
+          reaches_start key prefix context (first_position Second) p' true ms taken opened_all,
+          reaches_size new_key new_prefix context (first_position Second) (after q true m) true ms made sealed_all,
+          reaches_start new_key new_prefix context (first_position Second) (after q true m) true ms made sealed_all,
+        )
 
 -- ---- it fails
 
@@ -230,10 +281,8 @@ stops_writing p p' q last key prefix new_key new_prefix context stream left left
 
 pub result_rekeyed : {T : Type 0} (key prefix new_key new_prefix context : List ℕ) (file left old new : Option (List ℕ)) (r : Result T FileError) → length prefix ≡ 24
     → Consumes file left (prefix ++ header Second)
-    → OnOk r (IfSome left (λ f. (contents : List ℕ) × IsFileOf key prefix context contents (prefix ++ (header Second ++ f))
-    × (new_file : List ℕ) × IsFileOf new_key new_prefix context contents new_file × Appends old new new_file))
-    → OnOk r (IfSome file (λ f. (contents : List ℕ) × IsSealedFile key context contents f
-    × (new_file : List ℕ) × IsFileOf new_key new_prefix context contents new_file × Appends old new new_file))
+    → OnOk r (IfSome left (λ f. (new_file : List ℕ) × IsRekeyed key new_key new_prefix context (prefix ++ (header Second ++ f)) new_file × Appends old new new_file))
+    → OnOk r (IfSome file (λ f. (new_file : List ℕ) × IsRekeyed key new_key new_prefix context f new_file × Appends old new new_file))
 result_rekeyed key prefix new_key new_prefix context file left old new r long read s = grind (arith, under, some_with)
 
 -- what sealing a file anew uses

@@ -2,13 +2,12 @@
 use borrow.Rule.Slice.PartMut.{post_of, put_mid}
 use Rattle.std.proofs.Common.{◌≡◌, ◌≢◌, ◌⊎◌, ℕ, ◌+◌, ◌-◌, ◌*◌, ◌<◌, ◌≤◌, Bool, true, false, List, [], ◌∷◌, ◌++◌, Option, None, Some, IfSome, drop, length, take, refl, sym, ap, subst, ◌∙◌, append_assoc, arith, inl, inr}
 use Rattle.std.proofs.KnownBytes.{Consumes-trans}
-use Rattle.std.proofs.Math.Nat.{le-div_iff_mul-le}
-use Rattle.std.proofs.lemmas.Bool.{cases_lt}
 use Rattle.std.proofs.lemmas.List.{append-nil, drop-take, drop_at, length-append, length-drop, length-take, nil_from_length, take-append-drop, take-append-le, take-take, with_items_is}
+use Rattle.std.proofs.lemmas.Nat.{le-div}
 use Rattle.std.specs.Io.KnownBytes.{Appends, Consumes, IsAtEnd}
 use Rattle.std.specs.Prelude.{Vec}
 use Rattle.std.specs.Vec.{with_items}
-use Rattle.std.specs.List.{AllByRecursion, concat}
+use Rattle.std.specs.List.{concat}
 use Rattle.aegis_base.specs.declared.error.TheConstants.{MAX_AEAD_BYTES}
 use Rattle.aegis.proofs.Frames.{beginning_push, version_after, within_append}
 use Rattle.aegis.proofs.Stepwise.{length-record, sealed_one_stream}
@@ -22,10 +21,11 @@ use Rattle.aegis.specs.RecordStream.{AreWithin, Sealing, first_position, frame, 
 use Rattle.aegis_files.specs.declared.error.FileError.{FileError}
 use Rattle.aegis_files.specs.declared.error.FileError.TheVariants.{TooLong}
 use Rattle.aegis_files.specs.declared.seal.TheConstants.{PIECE_BYTES}
-use Rattle.aegis_files.specs.SealedFile.{IsFileOf, IsPiece, IsSealedFile, IsWriteError, WritesFileBeginning, pieces_in, stream_length}
+use Rattle.aegis_files.specs.SealedFile.{IsFileInPieces, IsSealedFile, IsWriteError, WritesFileBeginning, messages_for, piece_bytes, pieces_in, stream_length}
+use Rattle.aegis_files.proofs.Cutting.{AreAll, AreFirst, IsCut, IsNextPiece, cut_end, cut_more, cut_none, first_messages, known_cut}
 use Rattle.aegis_files.proofs.Filling.{put_long, put_part}
-use Rattle.aegis_files.proofs.Pieces.{all_push, at_end, concat-push, read_some, two_prefixes}
-use Rattle.aegis_files.proofs.Reaching.{Reaches, reaches_counts, reaches_more, reaches_none, reaches_stream}
+use Rattle.aegis_files.proofs.Pieces.{concat-push, read_some, some_with, two_prefixes}
+use Rattle.aegis_files.proofs.Reaching.{Reaches, reaches_counts, reaches_more, reaches_none, reaches_size, reaches_stream}
 
 -- the message of n bytes of a record in the buffer
 pub length-message : (n : ℕ) (bytes : List ℕ) → RECORD_BYTES + n ≤ length bytes → length (message_at n bytes) ≡ n
@@ -53,10 +53,6 @@ piece_read v all piece n left left' room is same within read =
 -- what reading a piece uses
 pub ruleset piece_laws = (piece_read, put_part, put_long, with_items_is)
 
--- the pieces so far are full, or the reader is at its end
-abbrev pub IsFull : Progress → Option (List ℕ) → Type 0
-IsFull p left = (p.position.before ≡ p.position.number * PIECE_BYTES) ⊎ IsAtEnd left
-
 -- The messages were read from the contents, and a header and the records `sent` were written after the prefix.
 pub record SealsSome (p : Progress) (key prefix context : List ℕ) (contents left old new : Option (List ℕ)) : Type 0 where
   pub messages : List (List ℕ)
@@ -64,14 +60,13 @@ pub record SealsSome (p : Progress) (key prefix context : List ℕ) (contents le
   pub reaches : Reaches key prefix context (first_position Second) p false messages sent
   pub read : Consumes contents left (concat messages)
   pub written : Appends old new (prefix ++ (header Second ++ sent))
-  pub within : AllByRecursion IsPiece messages
-  -- there is room for the last record, and all pieces are full if more of the contents are left
+  pub cut : IsCut contents left messages
+  -- there is room for the last record
   pub room : start_of p + 37 ≤ MAX_AEAD_BYTES
-  pub full : IfSome contents (λ t. IsFull p left)
 
 pub seals_begin : (p : Progress) (key prefix context : List ℕ) (contents old new : Option (List ℕ)) → p ≡ progress_at key prefix context (first_position Second)
     → Appends old new (prefix ++ header Second) → SealsSome p key prefix context contents contents old new
-seals_begin p key prefix context contents old new is written = grind (arith, reaches_none)
+seals_begin p key prefix context contents old new is written = grind (arith, reaches_none, cut_none)
 
 -- one more record was written
 more_written : (prefix sent bytes : List ℕ) (old new new' : Option (List ℕ)) → Appends old new (prefix ++ (header Second ++ sent)) → Appends new new' bytes
@@ -80,7 +75,7 @@ more_written prefix sent bytes old new new' before written = grind (arith, appen
 
 -- one more record, which may be the last one: no piece is too long for it
 piece_reaches : (p q : Progress) (last : Bool) (key prefix context : List ℕ) (ms : List (List ℕ)) (sent m : List ℕ)
-    → Reaches key prefix context (first_position Second) p false ms sent → q ≡ after p last m → IsPiece m
+    → Reaches key prefix context (first_position Second) p false ms sent → q ≡ after p last m → length m ≤ piece_bytes
     → Reaches key prefix context (first_position Second) q last (ms ++ m ∷ []) (sent ++ record_of p (last_flag last) m)
 piece_reaches p q last key prefix context ms sent m r next piece =
     reaches_more key prefix context (first_position Second) p q last ms sent m r next (rw (r.reached, version_after (first_position Second) ms) (omega (arith, piece)))
@@ -92,54 +87,64 @@ more_read contents left left' ms m before read = grind (arith, concat-push, Cons
 
 pub seals_more : (p q : Progress) (key prefix context : List ℕ) (contents left left' old new new' : Option (List ℕ)) (m bytes : List ℕ)
     → SealsSome p key prefix context contents left old new → Consumes left left' m → q ≡ after p false m → bytes ≡ record_of p 0 m → Appends new new' bytes
-    → IsPiece m → (length m < PIECE_BYTES → IsAtEnd left') → start_of q + 37 ≤ MAX_AEAD_BYTES
-    → SealsSome q key prefix context contents left' old new'
-seals_more p q key prefix context contents left left' old new new' m bytes s read next is written piece end room = record {
+    → IsNextPiece m left' → start_of q + 37 ≤ MAX_AEAD_BYTES → SealsSome q key prefix context contents left' old new'
+seals_more p q key prefix context contents left left' old new new' m bytes s read next is written piece room = record {
   messages = s.messages ++ m ∷ [];
   sent = s.sent ++ record_of p 0 m;
-  reaches = piece_reaches p q false key prefix context s.messages s.sent m s.reaches next piece;
+  reaches = piece_reaches p q false key prefix context s.messages s.sent m s.reaches next piece.within;
   read = more_read contents left left' s.messages m s.read read;
   written = more_written prefix s.sent (record_of p 0 m) old new new' s.written (subst (Appends new new') is written);
-  within = all_push IsPiece s.messages m s.within piece;
+  cut = cut_more contents left left' s.messages m s.read read s.cut piece;
   room = room;
-  full = read_some contents left (concat s.messages) _ s.read (λ t rest known is left_is.
-      full rest left' (subst (λ l. Consumes l left' m) left_is read) end (subst (IsFull p) left_is (subst (λ c. IfSome c (λ t. IsFull p left)) known s.full)));
 }
-  where
-    full : (rest : List ℕ) (left' : Option (List ℕ)) → Consumes (Some rest) left' m → (length m < PIECE_BYTES → IsAtEnd left') → IsFull p (Some rest) → IsFull q left'
-    full rest None read end before = absurd read
-    full rest (Some r) read end (inr over) = inr (nil_from_length r (omega (arith, ap length read, ap length over, length-append m r)))
-    full rest (Some r) read end (inl all) = elim (cases_lt (length m) PIECE_BYTES) [
-      | inl short ↦ inr (end short)
-      | inr whole ↦ rw next (inl (omega (arith, all, whole, piece)))
-    ]
 
 -- ---- the contents end
 
--- all of the contents were read
-none_left : (t all rest : List ℕ) (left : Option (List ℕ)) → t ≡ all ++ rest → left ≡ Some rest → IsAtEnd left → t ≡ all
-none_left t all rest left is known end = grind (arith, at_end, append-nil)
+-- the length of the file, whose stream has room for the last record
+file_size : (p : Progress) (key prefix context t sent : List ℕ) (ms : List (List ℕ)) → length prefix ≡ 24 → Reaches key prefix context (first_position Second) p false ms sent → AreAll t ms
+    → (length (prefix ++ (header Second ++ (sent ++ record_of p 1 []))) ≡ 24 + stream_length (length t)) × (stream_length (length t) ≡ start_of p + 37)
+file_size p key prefix context t sent ms long r all =
+    let c = reaches_counts key prefix context (first_position Second) p false ms sent r in
+    let size = reaches_size key prefix context (first_position Second) p false ms sent r in
+    let stream : stream_length (length t) ≡ start_of p + 37 = omega (arith, c.0, c.1, all.count, ap length all.whole) in (
+      omega (
+        arith,
+        long,
+        size,
+        stream,
+        length-append prefix (header Second ++ (sent ++ record_of p 1 [])),
+        length-append (header Second) (sent ++ record_of p 1 []),
+        length-append sent (record_of p 1 []),
+        length-record p.key p.prefix p.context p.position 1 [],
+      ),
+      stream,
+    )
 
-pub seals_end : (p : Progress) (key prefix context : List ℕ) (contents left left' old new new' : Option (List ℕ)) (bytes : List ℕ)
+pub seals_end : (p : Progress) (key prefix context : List ℕ) (contents left left' old new new' : Option (List ℕ)) (bytes : List ℕ) → length prefix ≡ 24
     → SealsSome p key prefix context contents left old new → Consumes left left' [] → IsAtEnd left' → bytes ≡ record_of p 1 []
     → Appends new new' bytes
-    → IfSome contents (λ t. (file : List ℕ) × (is : IsFileOf key prefix context t file) × Appends old new' file × AllByRecursion IsPiece is.messages)
-seals_end p key prefix context contents left left' old new new' bytes s read end is written =
+    → IfSome contents (λ t. (file : List ℕ) × IsFileInPieces key prefix context t file × Appends old new' file)
+seals_end p key prefix context contents left left' old new new' bytes long s read end is written =
+    some_with contents _ _ (λ t all.
     let ms : List (List ℕ) = s.messages ++ [] ∷ [] in
     let bytes : List ℕ = s.sent ++ record_of p 1 [] in
     let q : Progress = after p true [] in
-    read_some contents left' (concat ms) _ (more_read contents left left' s.messages [] s.read read) (λ t rest known contents_is left_is. (
+    let size = file_size p key prefix context t s.sent s.messages long s.reaches all in (
       prefix ++ (header Second ++ bytes),
       record {
-        messages = ms;
-        stream = header Second ++ bytes;
-        are = reaches_stream key prefix context q ms bytes (piece_reaches p q true key prefix context s.messages s.sent [] s.reaches refl (omega arith));
-        contents_is = none_left t (concat ms) rest left' contents_is left_is end;
-        file_is = refl;
+        is = record {
+          messages = ms;
+          stream = header Second ++ bytes;
+          are = reaches_stream key prefix context q ms bytes (piece_reaches p q true key prefix context s.messages s.sent [] s.reaches refl (omega arith));
+          contents_is = all.whole ∙ sym (concat-push s.messages [] ∙ append-nil (concat s.messages));
+          file_is = refl;
+        };
+        pieces = ap (λ (l : List (List ℕ)). l ++ [] ∷ []) all.are;
+        size = size.0;
+        fits = omega (arith, size.1, s.room);
       },
       more_written prefix s.sent (record_of p 1 []) old new new' s.written (subst (Appends new new') is written),
-      all_push IsPiece s.messages [] s.within (omega arith),
-    ))
+    )) (cut_end contents left left' s.messages s.read read end s.cut)
 
 -- ---- what was written, if it stops
 
@@ -190,15 +195,17 @@ opens_whole key prefix context begun rest other ms flag P Q long within is ends 
 
 stops : (key prefix context t begun rest more : List ℕ) (ms : List (List ℕ)) (flag : ℕ) (old new : Option (List ℕ)) (e : FileError) → length prefix ≡ 24
     → AreWithin Second ms → prefix ++ beginning (sealed key prefix context) Second flag ms ≡ begun ++ rest → t ≡ concat ms ++ more → Appends old new begun
+    → (after : List (List ℕ)) × (messages_for t ≡ ms ++ after)
     → (flag ≡ 0) ⊎ ((flag ≡ 1) × (t ≡ concat ms) × IsWriteError e) → (e ≡ TooLong → MAX_AEAD_BYTES < stream_length (length t))
     → WritesFileBeginning key prefix context t old new e
-stops key prefix context t begun rest more ms flag old new e long within is contents written ends too_long = record {
+stops key prefix context t begun rest more ms flag old new e long within is contents written pieces ends too_long = record {
   begun = begun;
   written = written;
   messages = ms;
   flag = flag;
   of_file = (rest, is);
   of_contents = (more, contents);
+  of_pieces = pieces;
   ends = ends;
   opens = λ other file.
       let it = opens_whole key prefix context begun rest other ms flag (t ≡ concat ms) (IsWriteError e) long within is ends file in
@@ -216,60 +223,81 @@ unfolding frames
 stops_in_front key prefix context None old new n e long time written = tt
 stops_in_front key prefix context (Some t) old new n e long time written =
     let all : List ℕ = prefix ++ header Second in
-    stops key prefix context t (take n all) (drop n all) t [] 0 old new e long tt (sym (take-append-drop n all)) refl written (inl refl) (λ it. absurd (time it))
+    stops key prefix context t (take n all) (drop n all) t [] 0 old new e long tt (sym (take-append-drop n all)) refl written (messages_for t, refl) (inl refl) (λ it. absurd (time it))
 
 -- some bytes of the records were written, none of them of the last one
 sent_beginning : (p : Progress) (key prefix context t sent rest begun left : List ℕ) (ms : List (List ℕ)) (old new : Option (List ℕ)) (e : FileError) → length prefix ≡ 24
     → Reaches key prefix context (first_position Second) p false ms sent → prefix ++ (header Second ++ sent) ≡ begun ++ rest → t ≡ concat ms ++ left → Appends old new begun
-    → (e ≡ TooLong → MAX_AEAD_BYTES < stream_length (length t)) → WritesFileBeginning key prefix context t old new e
-sent_beginning p key prefix context t sent rest begun left ms old new e long r is contents written too_long =
-    stops key prefix context t begun rest left ms 0 old new e long r.within (ap (λ (l : List ℕ). prefix ++ (header Second ++ l)) (sym r.are) ∙ is) contents written (inl refl) too_long
+    → AreFirst t ms left → (e ≡ TooLong → MAX_AEAD_BYTES < stream_length (length t)) → WritesFileBeginning key prefix context t old new e
+sent_beginning p key prefix context t sent rest begun left ms old new e long r is contents written first too_long =
+    stops key prefix context t begun rest left ms 0 old new e long r.within (ap (λ (l : List ℕ). prefix ++ (header Second ++ l)) (sym r.are) ∙ is) contents written
+    (first_messages t left ms first) (inl refl) too_long
 
 pub stops_between : (p : Progress) (key prefix context : List ℕ) (contents left old new : Option (List ℕ)) (e : FileError) → length prefix ≡ 24
     → e ≢ TooLong → SealsSome p key prefix context contents left old new → IfSome contents (λ t. WritesFileBeginning key prefix context t old new e)
 stops_between p key prefix context contents left old new e long time s = read_some contents left (concat s.messages) _ s.read (λ t rest known is after.
     sent_beginning p key prefix context t s.sent [] (prefix ++ (header Second ++ s.sent)) rest s.messages old new e long s.reaches
-    (sym (append-nil (prefix ++ (header Second ++ s.sent)))) is s.written (λ it. absurd (time it)))
+    (sym (append-nil (prefix ++ (header Second ++ s.sent)))) is s.written (known_cut contents left t rest s.messages s.cut known after) (λ it. absurd (time it)))
 
 -- the contents have more full pieces than the limit allows
 pub stops_long : (p : Progress) (key prefix context : List ℕ) (contents left left' old new : Option (List ℕ)) (m : List ℕ) → length prefix ≡ 24
     → SealsSome p key prefix context contents left old new → Consumes left left' m → 0 < length m → MAX_AEAD_BYTES < start_of p + (74 + length m)
     → IfSome contents (λ t. WritesFileBeginning key prefix context t old new TooLong)
 stops_long p key prefix context contents left left' old new m long s read some past = read_some contents left (concat s.messages) _ s.read (λ f rest known is left_is.
+    let first = known_cut contents left f rest s.messages s.cut known left_is in
     sent_beginning p key prefix context f s.sent [] (prefix ++ (header Second ++ s.sent)) rest s.messages old new TooLong long s.reaches
-    (sym (append-nil (prefix ++ (header Second ++ s.sent)))) is s.written (λ it. past_limit f rest left' is
-    (subst (λ l. Consumes l left' m) left_is read) (subst (IsFull p) left_is (subst (λ c. IfSome c (λ t. IsFull p left)) known s.full))))
+    (sym (append-nil (prefix ++ (header Second ++ s.sent)))) is s.written first (λ it. past_limit f rest left' is (subst (λ l. Consumes l left' m) left_is read) first.full))
   where
-    past_limit : (f rest : List ℕ) (left' : Option (List ℕ)) → f ≡ concat s.messages ++ rest → Consumes (Some rest) left' m → IsFull p (Some rest)
-        → MAX_AEAD_BYTES < stream_length (length f)
+    past_limit : (f rest : List ℕ) (left' : Option (List ℕ)) → f ≡ concat s.messages ++ rest → Consumes (Some rest) left' m
+        → (length (concat s.messages) ≡ length s.messages * piece_bytes) ⊎ (rest ≡ []) → MAX_AEAD_BYTES < stream_length (length f)
     past_limit f rest None is read full = absurd read
     past_limit f rest (Some r) is read (inr over) = absurd (omega (arith, some, ap length read, ap length over, length-append m r))
     past_limit f rest (Some r) is read (inl full) =
         let c = reaches_counts key prefix context (first_position Second) p false s.messages s.sent s.reaches in
         let sizes = ap length is in
         let more = ap length read in
-        let low : (p.position.number + 1) * PIECE_BYTES ≤ length f + (PIECE_BYTES - 1) =
-        omega (arith, full, c.1, some, length-append (concat s.messages) rest, length-append m r) in
-        let pieces : p.position.number + 1 ≤ pieces_in (length f) = (le-div_iff_mul-le {x = p.position.number + 1} (omega arith)).1 low in
-        omega (arith, full, c.1, past, length-append (concat s.messages) rest, length-append m r)
+        let low : (length s.messages + 1) * piece_bytes ≤ length f + (piece_bytes - 1) =
+        omega (arith, full, some, length-append (concat s.messages) rest, length-append m r) in
+        let pieces : length s.messages + 1 ≤ pieces_in (length f) = le-div (length s.messages + 1) (length f + (piece_bytes - 1)) piece_bytes (omega arith) low in
+        omega (arith, pieces, c.0, c.1, past, length-append (concat s.messages) rest, length-append m r)
 
 -- some bytes of the next record were written
 cut : (prefix sent out : List ℕ) (n : ℕ) → prefix ++ (header Second ++ (sent ++ out)) ≡ (prefix ++ (header Second ++ (sent ++ take n out))) ++ drop n out
 cut prefix sent out n = grind (arith, take-append-drop, append_assoc)
 
+-- what is read before the next record: a piece, or nothing more before the last one
+abbrev pub IsNext : Bool → List ℕ → Option (List ℕ) → Type 0
+IsNext false m left = IsNextPiece m left
+IsNext true m left = (m ≡ []) × IsAtEnd left
+
 pub stops_writing : (p : Progress) (last : Bool) (key prefix context : List ℕ) (contents left left' old new new' : Option (List ℕ)) (m bytes : List ℕ) (n : ℕ) (e : FileError)
-    → length prefix ≡ 24 → SealsSome p key prefix context contents left old new → Consumes left left' m → (last ≡ true → IsAtEnd left') → bytes ≡ record_of p (last_flag last) m
-    → IsPiece m → Appends new new' (take n bytes) → IsWriteError e → IfSome contents (λ t. WritesFileBeginning key prefix context t old new' e)
-stops_writing p last key prefix context contents left left' old new new' m bytes n e long s read end is piece written why =
+    → length prefix ≡ 24 → SealsSome p key prefix context contents left old new → Consumes left left' m → IsNext last m left' → bytes ≡ record_of p (last_flag last) m
+    → Appends new new' (take n bytes) → IsWriteError e → IfSome contents (λ t. WritesFileBeginning key prefix context t old new' e)
+stops_writing p last key prefix context contents left left' old new new' m bytes n e long s read next is written why =
     let ms : List (List ℕ) = s.messages ++ m ∷ [] in
-    let r = piece_reaches p (after p last m) last key prefix context s.messages s.sent m s.reaches refl piece in
+    let r = piece_reaches p (after p last m) last key prefix context s.messages s.sent m s.reaches refl (short last next) in
     read_some contents left' (concat ms) _ (more_read contents left left' s.messages m s.read read) (λ t rest known contents_is left_is.
     stops key prefix context t (prefix ++ (header Second ++ (s.sent ++ take n bytes))) (drop n bytes) rest ms (last_flag last) old new' e long r.within
     (ap (λ (l : List ℕ). prefix ++ (header Second ++ l)) (sym r.are ∙ ap (λ (l : List ℕ). s.sent ++ l) (sym is)) ∙ cut prefix s.sent bytes n) contents_is
     (more_written prefix s.sent (take n bytes) old new new' s.written written)
-    (ends last end t rest contents_is left_is) (λ it. absurd (written_in_time e why it)))
+    (pieces last next t rest known left_is) (ends last next t known) (λ it. absurd (written_in_time e why it)))
   where
-    ends : (last : Bool) → (last ≡ true → IsAtEnd left') → (t rest : List ℕ) → t ≡ concat (s.messages ++ m ∷ []) ++ rest → left' ≡ Some rest
+    short : (last : Bool) → IsNext last m left' → length m ≤ piece_bytes
+    short false next = next.within
+    short true next = omega (arith, ap length next.0)
+
+    all : IsNext true m left' → (t : List ℕ) → contents ≡ Some t → AreAll t s.messages
+    all next t known =
+        subst (λ c. IfSome c (λ t. AreAll t s.messages)) known (cut_end contents left left' s.messages s.read (subst (Consumes left left') next.0 read) next.1 s.cut)
+
+    pieces : (last : Bool) → IsNext last m left' → (t rest : List ℕ) → contents ≡ Some t → left' ≡ Some rest → (more : List (List ℕ)) × (messages_for t ≡ (s.messages ++ m ∷ []) ++ more)
+    pieces false next t rest known left_is =
+        first_messages t rest (s.messages ++ m ∷ []) (known_cut contents left' t rest (s.messages ++ m ∷ []) (cut_more contents left left' s.messages m s.read read s.cut next) known left_is)
+    pieces true next t rest known left_is =
+        ([], ap (λ (l : List (List ℕ)). l ++ [] ∷ []) (sym (all next t known).are) ∙ ap (λ (l : List ℕ). s.messages ++ l ∷ []) (sym next.0) ∙ sym (append-nil (s.messages ++ m ∷ [])))
+
+    ends : (last : Bool) → IsNext last m left' → (t : List ℕ) → contents ≡ Some t
         → (last_flag last ≡ 0) ⊎ ((last_flag last ≡ 1) × (t ≡ concat (s.messages ++ m ∷ [])) × IsWriteError e)
-    ends false end t rest is left_is = inl refl
-    ends true end t rest is left_is = inr (refl, none_left t (concat (s.messages ++ m ∷ [])) rest left' is left_is (end refl), why)
+    ends false next t known = inl refl
+    ends true next t known =
+        inr (refl, (all next t known).whole ∙ sym (concat-push s.messages m ∙ ap (λ (l : List ℕ). concat s.messages ++ l) next.0 ∙ append-nil (concat s.messages)), why)

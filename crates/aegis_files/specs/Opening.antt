@@ -1,12 +1,12 @@
 -- Opening a file failed, or sealing it anew under another key: why, and what was written.
-use Rattle.std.specs.Prelude.{◌≡◌, ◌≢◌, ℕ, ◌+◌, ◌<◌, ◌⊎◌, List, [], ◌++◌, Option, drop, length, take}
+use Rattle.std.specs.Prelude.{◌≡◌, ◌≢◌, ℕ, ◌+◌, ◌<◌, ◌≤◌, ◌⊎◌, List, [], ◌++◌, Option, drop, length, take}
 use Rattle.std.specs.Io.KnownBytes.{Appends}
 use Rattle.std.specs.List.{concat}
 use Rattle.aegis_base.specs.Limits.{max_aead_bytes}
 use Rattle.aegis_files.specs.declared.error.FileError.{FileError}
 use Rattle.aegis_files.specs.declared.error.FileError.TheVariants.{Stream, TooLong}
 use Rattle.aegis_files.specs.Range.{AreFrom}
-use Rattle.aegis_files.specs.SealedFile.{IsSealedFile, IsWriteError}
+use Rattle.aegis_files.specs.SealedFile.{IsFileOf, IsSealedFile, IsWriteError}
 use Rattle.aegis.specs.declared.record.error.RecordError.{RecordError}
 use Rattle.aegis.specs.declared.record.error.RecordError.TheVariants as errors
 use Rattle.aegis.specs.declared.record.version.Version.TheVariants.{Second}
@@ -46,6 +46,16 @@ pub record FailsWith (key context file : List ℕ) (old new : Option (List ℕ))
   -- so it is a beginning of the contents, if there is one
   pub beginning : (contents : List ℕ) → IsSealedFile key context contents file → (rest : List ℕ) × (contents ≡ begun ++ rest)
   pub refuses : RefusesFile key context file e
+
+-- The new file, under the new key and the new prefix, has the contents of the old one, in the same pieces.
+pub record IsRekeyed (key new_key prefix context file new_file : List ℕ) : Type 0 where
+  pub contents : List ℕ
+  pub old : IsSealedFile key context contents file
+  pub new : IsFileOf new_key prefix context contents new_file
+  pub pieces : new.messages ≡ old.is.messages
+  pub size : length new_file ≡ length file
+  -- the streams are within the limit
+  pub fits : length file ≤ 24 + max_aead_bytes
 
 -- From `old` to `new`, a beginning of the new prefix, a header and records was written. The messages of the records are those of
 -- the first records of the old file.

@@ -1,7 +1,7 @@
 -- A sealed file: a prefix of 24 bytes, and then a record stream in version 2 whose messages, one after the other, are the contents.
-use Rattle.std.specs.Prelude.{◌≡◌, ℕ, ◌+◌, ◌-◌, ◌*◌, ◌/◌, ◌<◌, ◌≤◌, ◌⊎◌, List, ◌++◌, Option, length, ◌≢◌, Bool, IfSome, drop, take}
+use Rattle.std.specs.Prelude.{◌≡◌, ℕ, ◌+◌, ◌-◌, ◌*◌, ◌/◌, ◌<◌, ◌≤◌, ◌⊎◌, List, [], ◌∷◌, ◌++◌, Option, length, ◌≢◌, Bool, IfSome, drop, map, take}
 use Rattle.std.specs.Io.KnownBytes.{Appends, Consumes, IsAtEnd}
-use Rattle.std.specs.List.{concat}
+use Rattle.std.specs.List.{concat, range_with_len}
 use Rattle.std.specs.declared.io.Error.{Error}
 use Rattle.aegis_base.specs.Limits.{max_aead_bytes}
 use Rattle.aegis_files.specs.declared.error.FileError.{FileError}
@@ -27,22 +27,41 @@ pub record IsSealedFile (key context contents file : List ℕ) : Type 0 where
   pub long : length prefix ≡ 24
   pub is : IsFileOf key prefix context contents file
 
--- how many bytes of contents a record has; the last record is empty, and the one before it may be shorter
+-- ---- the pieces that sealing makes of contents
+
+-- how many bytes a piece has; the last one may have fewer
 abbrev pub piece_bytes : ℕ
 piece_bytes = 65_536
 
--- a piece of contents, as sealing cuts it
-abbrev pub IsPiece : List ℕ → Type 0
-IsPiece m = length m ≤ piece_bytes
-
--- how many pieces contents of n bytes have
+-- how many pieces contents of n bytes have: n divided by that length, rounded up
 abbrev pub pieces_in : ℕ → ℕ
 pieces_in n = (n + (piece_bytes - 1)) / piece_bytes
 
--- how many bytes the record stream of such contents have: a header, a record for each piece, and the last record, which
--- is empty
+-- piece k, counted from 0: the bytes after k whole pieces, as many as a piece has or as are left
+abbrev pub piece : List ℕ → ℕ → List ℕ
+piece contents k = take piece_bytes (drop (k * piece_bytes) contents)
+
+-- the pieces of contents, in order
+unfoldable pub pieces_of : List ℕ → List (List ℕ)
+pieces_of contents = map (piece contents) (range_with_len 0 (pieces_in (length contents)))
+
+-- the messages of the file that sealing writes: the pieces, and an empty message at the end
+abbrev pub messages_for : List ℕ → List (List ℕ)
+messages_for contents = pieces_of contents ++ [] ∷ []
+
+-- how many bytes the record stream of contents of n bytes has: a header, and a record for each of these messages
 abbrev pub stream_length : ℕ → ℕ
 stream_length n = 4 + 37 * (pieces_in n + 1) + n
+
+-- The file that sealing writes for these contents.
+pub record IsFileInPieces (key prefix context contents file : List ℕ) : Type 0 where
+  pub is : IsFileOf key prefix context contents file
+  pub pieces : is.messages ≡ messages_for contents
+  pub size : length file ≡ 24 + stream_length (length contents)
+  -- the stream is within the limit
+  pub fits : stream_length (length contents) ≤ max_aead_bytes
+
+-- ---- why sealing failed
 
 -- a read or a write failed
 abbrev pub IsReadError : FileError → Type 0
@@ -60,6 +79,8 @@ pub record WritesFileBeginning (key prefix context contents : List ℕ) (old new
   pub flag : ℕ
   pub of_file : (rest : List ℕ) × (prefix ++ beginning (sealed key prefix context) Second flag messages ≡ begun ++ rest)
   pub of_contents : (rest : List ℕ) × (contents ≡ concat messages ++ rest)
+  -- they are the first messages of the file that sealing writes
+  pub of_pieces : (rest : List (List ℕ)) × (messages_for contents ≡ messages ++ rest)
   -- No record is the last one, unless the messages are the whole contents, and a write or the flush failed.
   pub ends : (flag ≡ 0) ⊎ ((flag ≡ 1) × (contents ≡ concat messages) × IsWriteError e)
   -- So only then can it be a file that opens.

@@ -6,6 +6,7 @@
 #![tactic(auto)]
 
 mod error;
+pub mod laws;
 mod next;
 mod open;
 mod range;

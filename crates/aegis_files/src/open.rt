@@ -1,7 +1,8 @@
 //! Opening a sealed file, from a reader to a writer.
 
-ghost use Rattle.std.specs.Prelude.{◌≡◌, ◌≤◌, ◌⊎◌, ◌++◌, IfErr, IfOk, IfSome, List, OnOk, length, ℕ};
+ghost use Rattle.std.specs.Prelude.{◌≡◌, ◌+◌, ◌≤◌, ◌⊎◌, ◌++◌, IfErr, IfOk, IfSome, List, OnOk, length, ℕ};
 ghost use Rattle.std.specs.Io.KnownBytes.{Appends, Consumes, IsAtEnd};
+ghost use Rattle.aegis_base.specs.declared.error.TheConstants.{MAX_AEAD_BYTES};
 ghost use Rattle.aegis.specs.RecordStream.{header};
 ghost use Rattle.aegis.specs.declared.record.version.Version.TheVariants.{Second};
 ghost use Rattle.aegis_files.specs.Opening.{FailsWith};
@@ -63,11 +64,14 @@ pub(crate) fn end<R: Read>(input: &mut R) -> Result<(), FileError>
 /// Opens a sealed file: reads the prefix and then the record stream, and writes each message after its tag has been
 /// verified.
 ///
-/// Returns `Ok` only if the whole input is the file of the contents that were written. A file is refused only if it is
-/// not the file of any contents, and the error is then its first fault, or if memory runs out. After any error,
-/// whatever the file is, only the messages of verified records at its beginning were written, all of them unless a
-/// write failed: a beginning of the file's contents, if it has one. A caller that needs the whole contents must discard
-/// it.
+/// Returns `Ok` only if the whole input is the file of the contents that were written, and its record stream has at
+/// most [`aegis::MAX_AEAD_BYTES`]. A file is rejected only if it is not the file of any contents, with its first fault
+/// as the error, or if memory runs out. The error is [`FileError::TooLong`] only if its stream has more bytes than
+/// that.
+///
+/// After any error, whatever the file is, only the messages of verified records at its beginning were written, all of
+/// them unless a write failed: a beginning of the file's contents, if it has one. A caller that needs the whole
+/// contents must discard it.
 ///
 /// The context must have at most [`MAX_CONTEXT_BYTES`]. Memory is allocated for one record, which is opened where it
 /// lies. In a file that someone else made with the key, it can have up to 16 MiB.
@@ -82,6 +86,8 @@ pub fn open_stream<R: Read, W: Write, A: Allocator + Copy>(
     ensures opened { OnOk result (IfSome (R.remaining input.old) (λ file. (contents : List ℕ)
         × Appends (W.contents output.old) (W.contents output.new) contents
         × IsSealedFile key.now context.now contents file)) }
+    ensures within { OnOk result
+        (IfSome (R.remaining input.old) (λ file. length file ≤ 24 + MAX_AEAD_BYTES)) }
     ensures refused { IfErr result (λ e. IfSome (R.remaining input.old)
         (λ file. FailsWith key.now context.now file
         (W.contents output.old) (W.contents output.new) e)) }

@@ -69,8 +69,8 @@ fn is_done(is_last: bool, left: u64, skip: u64) -> bool
 /// read, nor of the ones after them.
 ///
 /// After any error, only bytes of the part from verified records were written, all of them unless a write failed. A
-/// sealed file of any contents is rejected only if memory runs out. The error is [`FileError::TooLong`] only if the
-/// record stream has more than [`aegis::MAX_AEAD_BYTES`].
+/// sealed file of any contents is rejected only if memory runs out, or with [`FileError::TooLong`]: only if its record
+/// stream has more than [`aegis::MAX_AEAD_BYTES`].
 ///
 /// The context must have at most [`MAX_CONTEXT_BYTES`], and the record must start at byte [`aegis::MAX_AEAD_BYTES`] of
 /// the stream at most. Memory is allocated for one record, as its bytes come.

@@ -4,8 +4,7 @@ ghost use Rattle.std.specs.Prelude.{◌≡◌, ◌≤◌, ◌++◌, IfErr, IfSom
 ghost use Rattle.std.specs.Io.KnownBytes.{Appends};
 ghost use Rattle.aegis.specs.RecordStream.{header};
 ghost use Rattle.aegis.specs.declared.record.version.Version.TheVariants.{Second};
-ghost use Rattle.aegis_files.specs.Opening.{RekeysBeginning};
-ghost use Rattle.aegis_files.specs.SealedFile.{IsFileOf, IsSealedFile};
+ghost use Rattle.aegis_files.specs.Opening.{IsRekeyed, RekeysBeginning};
 
 use crate::error::FileError;
 use crate::next::{message, next_message};
@@ -38,11 +37,9 @@ fn rekey_under<'a, R: Read, W: Write, A: Allocator + Copy>(
     requires context { length context.now ≤ MAX_CONTEXT_BYTES }
     requires old_long { length from.prefix.now ≡ 24 }
     requires new_long { length to.prefix.now ≡ 24 }
-    ensures rekeyed { OnOk result (IfSome (R.remaining input.old) (λ records. (contents : List ℕ)
-        × IsFileOf from.entry.key.now from.entry.prefix.now context.now contents
-        (from.entry.prefix.now ++ (header Second ++ records))
-        × (file : List ℕ)
-        × IsFileOf to.entry.key.now to.entry.prefix.now context.now contents file
+    ensures rekeyed { OnOk result (IfSome (R.remaining input.old) (λ records. (file : List ℕ)
+        × IsRekeyed from.entry.key.now to.entry.key.now to.entry.prefix.now context.now
+        (from.entry.prefix.now ++ (header Second ++ records)) file
         × Appends (W.contents output.old) (W.contents output.new) file)) }
     ensures stopped { IfErr result (λ e. IfSome (R.remaining input.old)
         (λ records. RekeysBeginning from.entry.key.now
@@ -72,11 +69,12 @@ fn rekey_under<'a, R: Read, W: Write, A: Allocator + Copy>(
 
 /// Seals the contents of a sealed file anew under another key: reads a file of `key`, and writes the file of the same
 /// contents under `new_key`, `prefix` and the same context. Each message is sealed again after its tag has been
-/// verified.
+/// verified, so the new file has the same pieces and the same length.
 ///
 /// Returns `Ok` only if the whole input is a file of some contents, and the file of those contents was written. A file
 /// is rejected only if it is not the file of any contents, with its first fault as the error, or if memory runs out.
-/// The error is [`FileError::TooLong`] only if the input's record stream has more than [`aegis::MAX_AEAD_BYTES`].
+/// The error is [`FileError::TooLong`] only if the input's record stream has more than [`aegis::MAX_AEAD_BYTES`], and
+/// such a file is always rejected.
 ///
 /// After an error, a beginning of a file under the new key was written, whose messages are those of verified records at
 /// the input's beginning. If it opens, it has the input's whole contents, and a write or the flush failed. So after any
@@ -96,9 +94,8 @@ pub fn rekey_stream<R: Read, W: Write, A: Allocator + Copy>(
     output: &mut W,
 ) -> Result<(), FileError>
     requires { length context.now ≤ MAX_CONTEXT_BYTES }
-    ensures rekeyed { OnOk result (IfSome (R.remaining input.old) (λ file. (contents : List ℕ)
-        × IsSealedFile key.now context.now contents file
-        × (new_file : List ℕ) × IsFileOf new_key.now prefix.now context.now contents new_file
+    ensures rekeyed { OnOk result (IfSome (R.remaining input.old) (λ file. (new_file : List ℕ)
+        × IsRekeyed key.now new_key.now prefix.now context.now file new_file
         × Appends (W.contents output.old) (W.contents output.new) new_file)) }
     ensures stopped { IfErr result (λ e. IfSome (R.remaining input.old)
         (λ file. RekeysBeginning key.now new_key.now prefix.now context.now file

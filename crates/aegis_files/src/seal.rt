@@ -2,12 +2,11 @@
 
 ghost use Rattle.std.specs.Prelude.{◌≡◌, ◌+◌, ◌<◌, ◌≤◌, ◌++◌, IfErr, IfOk, IfSome, List, OnOk, length, ℕ};
 ghost use Rattle.std.specs.Io.KnownBytes.{Appends, Consumes, IsAtEnd};
-ghost use Rattle.std.specs.List.{AllByRecursion};
 ghost use Rattle.aegis.specs.Calls.{message_at};
 ghost use Rattle.aegis.specs.Progress.{progress_at};
 ghost use Rattle.aegis.specs.RecordStream.{first_position, header};
 ghost use Rattle.aegis.specs.declared.record.version.Version.TheVariants.{Second};
-ghost use Rattle.aegis_files.specs.SealedFile.{IsFileOf, IsPiece, IsReadError, WritesFileBeginning};
+ghost use Rattle.aegis_files.specs.SealedFile.{IsFileInPieces, IsReadError, WritesFileBeginning};
 
 use crate::error::FileError;
 use crate::reading::fill;
@@ -67,8 +66,9 @@ pub(crate) fn begin<'a, A: Allocator>(
     Ok(RecordSealer::new(key, prefix, context, out)?)
 }
 
-/// Seals the whole input: writes the prefix, and then the record stream of the input's pieces. The last message is
-/// empty, so that each piece is written before the next one is read.
+/// Seals the whole input: writes the prefix, and then the record stream of the input's pieces. Each has
+/// [`PIECE_BYTES`], and the last one may have fewer. An empty message ends the stream, so that each piece is written
+/// before the next one is read. The file has 65 bytes more than the input, and 37 for each piece.
 ///
 /// Under one key, a prefix must be used for one file only. The context must have at most [`MAX_CONTEXT_BYTES`]. Memory
 /// is allocated at the start only, for one record: each piece is read to its place in it, and sealed there.
@@ -86,9 +86,8 @@ pub fn seal_stream<R: Read, W: Write, A: Allocator + Copy>(
 ) -> Result<(), FileError>
     requires { length context.now ≤ MAX_CONTEXT_BYTES }
     ensures sealed { OnOk result (IfSome (R.remaining input.old) (λ contents. (file : List ℕ)
-        × (is : IsFileOf key.now prefix.now context.now contents file)
-        × Appends (W.contents output.old) (W.contents output.new) file
-        × AllByRecursion IsPiece is.messages)) }
+        × IsFileInPieces key.now prefix.now context.now contents file
+        × Appends (W.contents output.old) (W.contents output.new) file)) }
     ensures stopped { IfErr result (λ e. IfSome (R.remaining input.old)
         (λ contents. WritesFileBeginning key.now prefix.now context.now contents
         (W.contents output.old) (W.contents output.new) e)) }

@@ -1,5 +1,5 @@
 use Rattle.std.proofs.lemmas.Result.{err_from_is_err_and}
-use Rattle.aegis_files.proofs.Files.{ends_file, fails_end, fails_unread, fails_within, under}
+use Rattle.aegis_files.proofs.Files.{ends_file, ends_within, fails_end, fails_unread, fails_within, under}
 use Rattle.aegis_files.proofs.open.open_stream.Goals as goal
 
 pub returns-in_err-prefix-clause-refused : goal.returns-in_err-prefix-clause-refused
@@ -15,6 +15,10 @@ returns-in_err-open_range-clause-refused g c =
 pub returns-clause-opened : goal.returns-clause-opened
 returns-clause-opened g c =
     ends_file _ c.in_ok-prefix.prefix _ _ _ _ _ _ _ c.end.result c.in_ok-prefix.ensures.long c.in_ok-prefix.ensures.read c.in_ok-open_range.ensures.opened c.end.ensures.end
+
+pub returns-clause-within : goal.returns-clause-within
+returns-clause-within g c =
+    ends_within _ c.in_ok-prefix.prefix _ _ _ _ _ _ _ c.end.result c.in_ok-prefix.ensures.long c.in_ok-prefix.ensures.read c.in_ok-open_range.ensures.opened c.end.ensures.end
 
 pub returns-clause-refused : goal.returns-clause-refused
 returns-clause-refused g c =

@@ -50,7 +50,7 @@ pub returns-then-opened-clause-rekeyed : goal.returns-then-opened-clause-rekeyed
 returns-then-opened-clause-rekeyed g c =
     let m = c.message-contents.ensures ∙ ap (message_of c.in_ok-opened.opened) c.deref.ensures.value in
     let sent = c.deref-then-opened.ensures.value ∙ c.in_ok-seal_last.ensures.appended ∙ ap (λ x. c.records.out.items ++ record_of c.records.sealer 1 x) m in
-    rekeys_end _ _ _ _ _ _ _ _ _ _ _ _ _ _ _ _ _ c.records.invariant (rw c.if-opened.true at c.in_ok-opened.ensures.opened) c.in_ok-end.ensures.end sent c.in_ok-write_last.ensures.ok
+    rekeys_end _ _ _ _ _ _ _ _ _ _ _ _ _ _ _ _ _ c.requires.old_long c.requires.new_long c.records.invariant (rw c.if-opened.true at c.in_ok-opened.ensures.opened) c.in_ok-opened.ensures.fits c.in_ok-end.ensures.end sent c.in_ok-write_last.ensures.ok
 
 pub returns-in_err-write-clause-stopped : goal.returns-in_err-write-clause-stopped
 returns-in_err-write-clause-stopped g c =

@@ -1,4 +1,4 @@
-use Rattle.std.proofs.Common.{◌+◌, ◌≤◌, ◌++◌, ◌∙◌, [], ap, arith, false, length, subst, sym, take, true}
+use Rattle.std.proofs.Common.{◌+◌, ◌≤◌, ◌++◌, ◌∙◌, [], ap, arith, false, length, refl, subst, sym, take, true}
 use Rattle.std.proofs.KnownBytes.{Appends-nil}
 use Rattle.std.proofs.lemmas.List.{length-take}
 use Rattle.std.proofs.lemmas.Result.{err_from_is_err_and}
@@ -60,14 +60,14 @@ returns-in_err-write_last-clause-stopped g c =
     let sent = c.deref-then-count-eq0.ensures.value ∙ c.in_ok-seal_last.ensures.appended ∙ ap (λ l. l ++ record_of c.pieces.sealer 1 []) c.clear.ensures.items in
     let read = rw c.if-count-eq0.true at c.in_ok-count.ensures in
     let written = c.in_err-write_last.ensures.beginning in
-    rw (p.1, p.2) (stops_writing _ true _ _ _ _ _ _ _ _ _ [] _ written.0 _ c.told-prefix c.pieces.invariant.sealed read.read (λ _. read.end (omega arith)) sent (omega arith)
+    rw (p.1, p.2) (stops_writing _ true _ _ _ _ _ _ _ _ _ [] _ written.0 _ c.told-prefix c.pieces.invariant.sealed read.read (refl, read.end (omega arith)) sent
     written.1 c.in_err-write_last.ensures.err)
 
 pub returns-then-count-eq0-clause-sealed : goal.returns-then-count-eq0-clause-sealed
 returns-then-count-eq0-clause-sealed g c =
     let sent = c.deref-then-count-eq0.ensures.value ∙ c.in_ok-seal_last.ensures.appended ∙ ap (λ l. l ++ record_of c.pieces.sealer 1 []) c.clear.ensures.items in
     let read = rw c.if-count-eq0.true at c.in_ok-count.ensures in
-    seals_end _ _ _ _ _ _ _ _ _ _ _ c.pieces.invariant.sealed read.read (read.end (omega arith)) sent c.in_ok-write_last.ensures.ok
+    seals_end _ _ _ _ _ _ _ _ _ _ _ c.told-prefix c.pieces.invariant.sealed read.read (read.end (omega arith)) sent c.in_ok-write_last.ensures.ok
 
 pub returns-then-remaining-count-clause-stopped : goal.returns-then-remaining-count-clause-stopped
 returns-then-remaining-count-clause-stopped g c =
@@ -86,8 +86,11 @@ pieces-preserved g c =
     record {
       room = sym (length_refill _ _ _ c.read_piece.new.buffer.ok.0) ∙ c.read_piece.new.buffer.ok.0 ∙ c.read_piece.ensures.room;
       sealed = seals_more _ _ _ _ _ _ _ _ _ _ _ (message_at count bytes) _ c.pieces.invariant.sealed c.in_ok-count.ensures.read (rw is at c.seal_next_in_place.ensures.progress) (rw is at c.seal_next_in_place.ensures.written) c.in_ok-write-2.ensures.ok
-          (omega (arith, size, c.in_ok-count.ensures.within))
-          (λ short. c.in_ok-count.ensures.end (omega (arith, short, size)))
+          (record {
+            some = omega (arith, size, c.if-count-eq0.false);
+            within = omega (arith, size, c.in_ok-count.ensures.within);
+            end = λ short. c.in_ok-count.ensures.end (omega (arith, short, size));
+          })
           (omega (arith, c.seal_next_in_place.ensures.taken, long, ap length c.deref_mut.ensures.value, length-take (RECORD_BYTES + count) c.deref_mut.result.now, c.remaining.ensures, c.if-remaining-count.false));
     }
 
@@ -100,5 +103,10 @@ returns-in_err-write-2-clause-stopped g c =
     let size = length-message count bytes long in
     let is = ap (λ l. message_in (take (RECORD_BYTES + count) l)) c.deref_mut.ensures.value ∙ message_cut count bytes long in
     let written = c.in_err-write-2.ensures.beginning in
-    rw (p.1, p.2) (stops_writing _ false _ _ _ _ _ _ _ _ _ (message_at count bytes) _ written.0 _ c.told-prefix c.pieces.invariant.sealed c.in_ok-count.ensures.read (λ no. absurd cc)
-    (rw is at c.seal_next_in_place.ensures.written) (omega (arith, size, c.in_ok-count.ensures.within)) written.1 c.in_err-write-2.ensures.err)
+    rw (p.1, p.2) (stops_writing _ false _ _ _ _ _ _ _ _ _ (message_at count bytes) _ written.0 _ c.told-prefix c.pieces.invariant.sealed c.in_ok-count.ensures.read
+    (record {
+      some = omega (arith, size, c.if-count-eq0.false);
+      within = omega (arith, size, c.in_ok-count.ensures.within);
+      end = λ short. c.in_ok-count.ensures.end (omega (arith, short, size));
+    })
+    (rw is at c.seal_next_in_place.ensures.written) written.1 c.in_err-write-2.ensures.err)
