@@ -6,12 +6,13 @@ use crate::code::{Answer, MAX_BYTES, MESSAGE_TOO_LONG, WRONG_STATE, check, is_sa
 /// What a state is.
 #[derive(Clone, Copy, PartialEq, Eq)]
 pub enum Role {
-    /// A message that may be encrypted or decrypted.
+    /// A message that may be encrypted, decrypted or checked.
     Message = 1,
     Encrypting = 2,
     Decrypting = 3,
     Mac = 4,
     Journal = 5,
+    Checking = 6,
 }
 
 const MARK: u64 = 0x4855_4e4b;
@@ -66,10 +67,14 @@ impl State {
     /// Returns an error unless it is in one of the roles, and may take in so many bytes more.
     pub fn check(&self, roles: &[Role], more: usize) -> Answer {
         let is_role = roles.iter().any(|role| *role as u32 == self.role);
-        let is_mac = self.role >= Role::Mac as u32;
-        check(self.mark == MARK && self.variant < 6 && is_role && (!is_mac || self.data_bytes == 0), WRONG_STATE)?;
+        check(self.mark == MARK && self.variant < 6 && is_role, WRONG_STATE)?;
+        check(!self.is_mac() || self.data_bytes == 0, WRONG_STATE)?;
         check(self.message_bytes.max(self.data_bytes) <= MAX_BYTES, WRONG_STATE)?;
         check(more as u64 <= MAX_BYTES - self.message_bytes, MESSAGE_TOO_LONG)
+    }
+
+    fn is_mac(&self) -> bool {
+        self.role == Role::Mac as u32 || self.role == Role::Journal as u32
     }
 
     fn aegis(&self) -> Aegis {
@@ -88,13 +93,28 @@ impl State {
         self.pass(bytes, Pass::Decrypt);
     }
 
+    /// Decrypts the next bytes, and writes none of them.
+    pub fn check_next(&mut self, bytes: &[u8]) {
+        self.role = Role::Checking as u32;
+        self.pass_copies(bytes, Pass::Decrypt);
+    }
+
+    /// Returns whether so many bytes of the message may be given at its end: all or none, and none after a check.
+    pub fn may_give(&self, bytes: usize) -> bool {
+        bytes == 0 || self.role != Role::Checking as u32 && bytes as u64 == self.message_bytes
+    }
+
     /// Takes in the next bytes of associated data or of the input of a MAC.
     pub fn absorb(&mut self, bytes: &[u8]) {
+        self.pass_copies(bytes, Pass::Absorb);
+    }
+
+    fn pass_copies(&mut self, bytes: &[u8], pass: Pass) {
         for part in bytes.chunks(256) {
             let mut copy = [0; 256];
             let copy = &mut copy[..part.len()];
             copy.copy_from_slice(part);
-            self.pass(copy, Pass::Absorb);
+            self.pass(copy, pass);
         }
     }
 
@@ -140,7 +160,7 @@ impl State {
     pub fn finish(&self, tag: &mut [u8]) {
         let mut aegis = self.aegis();
         self.absorb_block(&mut aegis);
-        if self.role < Role::Mac as u32 {
+        if !self.is_mac() {
             return aegis.tag(self.data_bytes, self.message_bytes, tag);
         }
         if self.message_bytes == 0 {

@@ -108,14 +108,8 @@ fn hunkravy_proved_state_decrypt_in_place_unverified(st: *mut State, mc: Out, mc
 }
 
 fn hunkravy_proved_state_decrypt_check(st: *mut State, c: In, clen: usize) {
-    (*st).check(&[Role::Message, Role::Decrypting], clen)?;
-    // The role is set even if there are no bytes.
-    (*st).decrypt(&mut []);
-    for part in input(c, clen).chunks(256) {
-        let mut copy = [0; 256];
-        copy[..part.len()].copy_from_slice(part);
-        (*st).decrypt(&mut copy[..part.len()]);
-    }
+    (*st).check(&[Role::Message, Role::Checking], clen)?;
+    (*st).check_next(input(c, clen));
     Ok(())
 }
 
@@ -128,8 +122,8 @@ fn hunkravy_proved_state_encrypt_final(st: *mut State, mac: Out, maclen: usize) 
 }
 
 fn hunkravy_proved_state_decrypt_final(st: *mut State, m: Out, mlen: usize, mac: In, maclen: usize) {
-    (*st).check(&[Role::Message, Role::Decrypting], 0)?;
-    check(mlen == 0 || mlen as u64 == (*st).message_bytes, WRONG_MESSAGE_LENGTH)?;
+    (*st).check(&[Role::Message, Role::Decrypting, Role::Checking], 0)?;
+    check((*st).may_give(mlen), WRONG_MESSAGE_LENGTH)?;
     check_tag(maclen)?;
     let is_right = (*st).is_finished_by(input(mac, maclen));
     *st = ENDED;

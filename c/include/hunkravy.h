@@ -259,16 +259,19 @@ HUNKRAVY_MUST_USE int hunkravy_state_decrypt_unverified(hunkravy_state *st, uint
  * Processes the next `clen` bytes of the ciphertext, and writes only the state. If hunkravy_state_decrypt_final then
  * returns HUNKRAVY_OK, the tag is right. So if you can read the ciphertext twice, avoid unverified bytes: check it
  * first, then initialise the state again and decrypt. Verify the tag again at the end, since the ciphertext may have
- * changed. Returns HUNKRAVY_MESSAGE_TOO_LONG if all chunks together are too long. After an error the state is
- * unchanged.
+ * changed. Returns HUNKRAVY_MESSAGE_TOO_LONG if all chunks together are too long, and HUNKRAVY_WRONG_STATE if a chunk
+ * was decrypted: a state checks or decrypts, and not both. After an error the state is unchanged.
  */
 HUNKRAVY_MUST_USE int hunkravy_state_decrypt_check(hunkravy_state *st, const uint8_t *c, size_t clen)
     HUNKRAVY_NONNULL(1);
 
 /*
- * Verifies the tag `mac` of all chunks, and zeroes the state. `m` holds the whole decrypted message of `mlen` bytes. If
- * the chunks are in several buffers, pass 0 as `mlen`, and erase the buffers after an error. If the chunks were only
- * checked, pass 0 too. Any other length is HUNKRAVY_WRONG_MESSAGE_LENGTH.
+ * Verifies the tag `mac` of all chunks, and zeroes the state. This function never reads `m`, and writes it only after a
+ * wrong tag. Make sure that `m` still holds the decrypted bytes. hunkravy_decrypt verifies and decrypts in one call.
+ *
+ * `m` has the `mlen` bytes of the whole message. If its chunks are in several buffers, pass 0 as `mlen`, and erase the
+ * buffers after an error. After hunkravy_state_decrypt_check pass 0 too. Any other length is
+ * HUNKRAVY_WRONG_MESSAGE_LENGTH.
  *
  * After HUNKRAVY_OK the decrypted chunks are the message. After HUNKRAVY_INVALID_TAG the state is zeroed too, and
  * each of the `mlen` bytes at `m` is 0xaa. After any other error the state is unchanged, and the chunks are still

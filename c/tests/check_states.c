@@ -82,6 +82,25 @@ static void check_final(const struct line *line, hunkravy_state st, uint8_t *m)
     free(before);
 }
 
+/* Ends a message that was only checked: no byte of it was written, so no length but 0 is right. */
+static void check_checked(const struct line *line, hunkravy_state st, uint8_t *m)
+{
+    hunkravy_state old;
+    size_t length = line->text.length, maclen = line->tag.length;
+    uint8_t *mac = copied(line->tag.at, maclen), *before = copied(m, length + 1);
+    int code = line->refusal != NULL ? HUNKRAVY_INVALID_TAG : HUNKRAVY_OK;
+
+    HOLDS(hunkravy_state_decrypt_check(&st, NULL, 0) == HUNKRAVY_OK);
+    old = st;
+    HOLDS(length == 0 || hunkravy_state_decrypt_final(&st, m, length, mac, maclen) == HUNKRAVY_WRONG_MESSAGE_LENGTH);
+    HOLDS(hunkravy_state_decrypt_in_place_unverified(&st, m, length) == HUNKRAVY_WRONG_STATE);
+    HOLDS(hunkravy_state_decrypt_unverified(&st, m, m, length) == HUNKRAVY_WRONG_STATE);
+    HOLDS(is_same(&st, &old) && are_equal(m, before, length + 1));
+    HOLDS(hunkravy_state_decrypt_final(&st, NULL, 0, mac, maclen) == code && is_zeros(&st));
+    free(mac);
+    free(before);
+}
+
 /* In place, to another buffer, and without an output. */
 static void check_open(const struct line *line)
 {
@@ -98,8 +117,8 @@ static void check_open(const struct line *line)
         HOLDS(are_equal(mc, to, length) && is_same(&st, &copy));
         free(mc);
     }
-    HOLDS(is_same(&st, &checked));
     check_final(line, st, m);
+    check_checked(line, checked, m);
     free(m);
 }
 
@@ -261,6 +280,7 @@ static void check_roles(uint32_t variant, size_t n)
     st = fresh;
     HOLDS(hunkravy_state_decrypt_in_place_unverified(&st, bytes, 20) == HUNKRAVY_OK);
     check_refused(st, ENCRYPT | MAC);
+    HOLDS(hunkravy_state_decrypt_check(&st, bytes, 20) == HUNKRAVY_WRONG_STATE);
     HOLDS(hunkravy_mac_init(variant, &st, k, n, k, n) == HUNKRAVY_OK);
     check_refused(st, ENCRYPT | DECRYPT);
     HOLDS(hunkravy_mac_update(&st, bytes, 20) == HUNKRAVY_OK);

@@ -80,12 +80,24 @@ static void begin(const struct message *this, hunkravy_state *st)
     RETURNS(HUNKRAVY_OK, hunkravy_state_init(this->calls->number, st, CONTEXT(this)));
 }
 
+/* Accepts the right tag, and rejects one that differs in a bit. */
+static void check_end(const struct message *this, hunkravy_state st, uint8_t *m, size_t mlen, const uint8_t *mac)
+{
+    uint8_t wrong[TAG_BYTES];
+    hunkravy_state copy = st;
+
+    memcpy(wrong, mac, this->maclen);
+    wrong[0] ^= 1;
+    RETURNS(HUNKRAVY_OK, hunkravy_state_decrypt_final(&st, m, mlen, mac, this->maclen));
+    RETURNS(HUNKRAVY_INVALID_TAG, hunkravy_state_decrypt_final(&copy, m, mlen, wrong, this->maclen));
+}
+
 /* The message in two chunks, and the first of them ends within a block. */
 static void check_messages(const struct message *this)
 {
     size_t first = this->length / 3, rest = this->length - first;
     uint8_t mc[LONGEST], c[LONGEST], mac[TAG_BYTES];
-    hunkravy_state st, copy;
+    hunkravy_state st;
 
     begin(this, &st);
     RETURNS(HUNKRAVY_OK, hunkravy_state_encrypt(&st, c, this->secret.text, first));
@@ -95,12 +107,14 @@ static void check_messages(const struct message *this)
 
     begin(this, &st);
     RETURNS(HUNKRAVY_OK, hunkravy_state_decrypt_check(&st, c, first));
+    RETURNS(HUNKRAVY_OK, hunkravy_state_decrypt_check(&st, c + first, rest));
+    check_end(this, st, NULL, 0, mac);
+
+    begin(this, &st);
+    memcpy(mc, c, first);
+    RETURNS(HUNKRAVY_OK, hunkravy_state_decrypt_in_place_unverified(&st, mc, first));
     RETURNS(HUNKRAVY_OK, hunkravy_state_decrypt_unverified(&st, mc + first, c + first, rest));
-    RETURNS(HUNKRAVY_OK, hunkravy_state_decrypt_in_place_unverified(&st, mc, 0));
-    copy = st;
-    RETURNS(HUNKRAVY_OK, hunkravy_state_decrypt_final(&st, mc, this->length, mac, this->maclen));
-    mac[0] ^= 1;
-    RETURNS(HUNKRAVY_INVALID_TAG, hunkravy_state_decrypt_final(&copy, mc, this->length, mac, this->maclen));
+    check_end(this, st, mc, this->length, mac);
 }
 
 static void check_macs(const struct message *this)

@@ -7,7 +7,7 @@ use Rattle.aegis_base.specs.Mac.{mac}
 use Rattle.aegis_base.specs.Message.{Opens, ciphertext, keystream, seal, tag as tag_of, xor_keystream}
 use Rattle.aegis_engine.specs.Saved.{HasChecked, HasSealed, HasTaken, IsSaved}
 use Rattle.aegis_base.specs.Limits.{erased_byte}
-use Rattle.aegis_c_calls.specs.Codes.{chunk_code, decrypting_role, encrypting_role, ended_state, final_code, lengths_code, mac_code, mac_final_code, mac_role, message_code, message_role, number_of, opened_code, success, variant_code, the}
+use Rattle.aegis_c_calls.specs.Codes.{checking_role, chunk_code, decrypting_role, encrypting_role, ended_state, final_code, lengths_code, mac_code, mac_final_code, mac_role, message_code, message_role, number_of, opened_code, success, variant_code, the}
 use Rattle.aegis_c_calls.specs.declared.refusal.Refusal.TheVariants.{InvalidTag}
 use Rattle.aegis_c_calls.specs.declared.state.State.{State}
 
@@ -88,11 +88,12 @@ pub record StateDecryptInPlaceUnverified (variant : Option Variant) (old new : S
   pub state_kept : code ≢ success → new ≡ old
   pub kept : code ≢ success → plain ≡ sealed
 
--- The call takes in the next bytes of the ciphertext, without writing the message; or it changes nothing.
+-- The call takes in the next bytes of the ciphertext, without writing the message; or it changes nothing. A message is
+-- checked or decrypted, and not both.
 pub record StateDecryptCheck (variant : Option Variant) (old new : State) (sealed : List ℕ) (code : ℤ) : Type 0 where
-  pub answered : code ≡ chunk_code variant old message_role decrypting_role (length sealed)
+  pub answered : code ≡ chunk_code variant old message_role checking_role (length sealed)
   pub checked : code ≡ success → HasChecked (the variant) old.context new.context sealed
-  pub goes_on : code ≡ success → GoesOn old new decrypting_role
+  pub goes_on : code ≡ success → GoesOn old new checking_role
   pub state_kept : code ≢ success → new ≡ old
 
 -- The call overwrites `tag` with the tag of the message, and ends the state; or it changes nothing.
@@ -104,8 +105,9 @@ pub record StateEncryptFinal (variant : Option Variant) (old new : State) (tag t
   pub kept : code ≢ success → tag' ≡ tag
 
 -- The call returns `success` exactly if the message is sealed to its ciphertext and this tag, unless a length or the state
--- is wrong. If no message is, it erases every byte of `opened`, which has all bytes of the message or none. Both end the state; and if a length or the state is
--- wrong, it changes nothing.
+-- is wrong. If no message is, it erases every byte of `opened`, which has as many as the message, or none, as after a check.
+-- Both end the state; and if a length or the state is wrong, it changes nothing. It does not read `opened`: the message is
+-- what the calls before have written (`StateDecryptInPlaceUnverified`).
 pub record StateDecryptFinal (variant : Option Variant) (old new : State) (opened opened' tag : List ℕ) (code : ℤ) : Type 0 where
   pub answered : code ≢ number_of InvalidTag → code ≡ opened_code variant old (length opened) (length tag)
   pub lengths : code ≡ number_of InvalidTag → opened_code variant old (length opened) (length tag) ≡ success

@@ -33,7 +33,8 @@ key_bytes_of None = 0
 
 -- ---- states
 
--- the roles: a message that may be encrypted or decrypted, one that is encrypted, one that is decrypted, a MAC, a journal
+-- the roles: a message that may be encrypted, decrypted or checked, one that is encrypted, one that is decrypted, a MAC, a
+-- journal, a message that is checked and not written
 abbrev pub message_role : ℕ
 message_role = 1
 
@@ -48,6 +49,9 @@ mac_role = 4
 
 abbrev pub journal_role : ℕ
 journal_role = 5
+
+abbrev pub checking_role : ℕ
+checking_role = 6
 
 -- a state after its end: zeros
 abbrev pub ended_state : State
@@ -150,10 +154,21 @@ chunk_code variant st begun role more = state_code variant st begun role (more_c
 abbrev pub final_code : Option Variant → State → ℕ → ℕ → ℕ → ℤ
 final_code variant st begun role tag = state_code variant st begun role (tag_code tag)
 
--- the same for a message that was decrypted, at the end of which there may be no bytes of it, or all
+-- the role that a message goes on in until its tag is verified
+unfoldable pub reading_role : State → ℕ
+reading_role st = if st.role == checking_role then checking_role else decrypting_role
+
+-- for the number of bytes of the message that are given at its end: all or none, and none if it was checked; `rest` is the
+-- code if they are allowed
+unfoldable pub given_code : State → ℕ → ℤ → ℤ
+given_code st given rest =
+    if given == 0
+    then rest
+    else (if st.role == checking_role then number_of WrongMessageLength else (if given == st.context.message_bytes then rest else number_of WrongMessageLength))
+
+-- for the state of a message that was decrypted or checked, those bytes, and the length of its tag
 abbrev pub opened_code : Option Variant → State → ℕ → ℕ → ℤ
-opened_code variant st opened tag =
-    state_code variant st message_role decrypting_role (if opened == 0 || opened == st.context.message_bytes then tag_code tag else number_of WrongMessageLength)
+opened_code variant st opened tag = state_code variant st message_role (reading_role st) (given_code st opened (tag_code tag))
 
 -- for a state and the length of its MAC; the state of a MAC has no associated data
 abbrev pub mac_final_code : Option Variant → State → ℕ → ℤ

@@ -4,7 +4,7 @@
 ghost use Rattle.std.specs.Prelude.{◌≡◌, ◌≢◌, ◌+◌, ◌≤◌, ℤ, IfErr, OnOk};
 ghost use Rattle.aegis_base.specs.Variant.{key_length};
 ghost use Rattle.aegis_c_calls.specs.Calls.{Begins, MacFinal, MacFinalVerify, MacUpdate, StateDecryptCheck, StateDecryptFinal, StateDecryptInPlaceUnverified, StateEncryptFinal, StateEncryptInPlace};
-ghost use Rattle.aegis_c_calls.specs.Codes.{chunk_code, code_of, more_code, number_of, role_code, success};
+ghost use Rattle.aegis_c_calls.specs.Codes.{chunk_code, code_of, given_code, more_code, number_of, reading_role, role_code, success};
 
 use crate::keys::message_keys;
 use crate::refusal::Refusal;
@@ -20,7 +20,7 @@ pub struct State {
     pub role: u32,
 }
 
-/// A message that may be encrypted or decrypted. Its first call decides.
+/// A message that may be encrypted, decrypted or checked. Its first call decides.
 pub const MESSAGE: u32 = 1;
 
 /// A message that is encrypted.
@@ -31,6 +31,9 @@ pub const DECRYPTING: u32 = 3;
 
 /// A MAC.
 pub const MAC: u32 = 4;
+
+/// A message that is checked: its ciphertext is decrypted, and not written.
+pub const CHECKING: u32 = 6;
 
 /// A state after its end: zeros.
 pub const ENDED: State = State {
@@ -77,6 +80,37 @@ fn check_chunk(st: &State, begun: u32, role: u32, more: usize) -> Result<(), Ref
     check_state(st, begun, role)?;
     if more as u64 > MAX_AEAD_BYTES - st.context.message_bytes {
         return Err(Refusal::MessageTooLong);
+    }
+    Ok(())
+}
+
+// Returns the role that a message must be in when its tag is verified.
+#[tactic(auto, unfolding(crate::specs::Codes::reading_role))]
+fn reading_role(st: &State) -> u32
+    ensures { result ≡ reading_role st.now }
+{
+    if st.role == CHECKING {
+        CHECKING
+    } else {
+        DECRYPTING
+    }
+}
+
+// Refuses to be given so many bytes of a message at its end, unless they are all or none. A message that was checked
+// has none.
+#[tactic(auto, unfolding(crate::specs::Codes::given_code))]
+fn check_given(st: &State, given: usize) -> Result<(), Refusal>
+    ensures right { OnOk result ((rest : ℤ) → given_code st.now given rest ≡ rest) }
+    ensures wrong { IfErr result (λ refusal. (rest : ℤ)
+        → given_code st.now given rest ≡ number_of refusal) }
+    ensures refusal { IfErr result (λ refusal. number_of refusal
+        ≡ number_of Refusal.WrongMessageLength) }
+{
+    if given == 0 {
+        return Ok(());
+    }
+    if st.role == CHECKING || given as u64 != st.context.message_bytes {
+        return Err(Refusal::WrongMessageLength);
     }
     Ok(())
 }
@@ -149,9 +183,9 @@ pub fn decrypt_in_place_unverified<S: SavedLanes>(
 pub fn decrypt_check<S: SavedLanes>(st: &mut State, c: &[u8]) -> Result<(), Refusal>
     ensures { StateDecryptCheck (Some S.VARIANT) st.old st.new c.now (code_of result) }
 {
-    check_chunk(st, MESSAGE, DECRYPTING, c.len())?;
+    check_chunk(st, MESSAGE, CHECKING, c.len())?;
     st.context.decrypt_check::<S>(c);
-    st.role = DECRYPTING;
+    st.role = CHECKING;
     Ok(())
 }
 
@@ -172,17 +206,15 @@ pub fn encrypt_final<S: SavedLanes>(st: &mut State, mac: &mut [u8]) -> Result<()
     Ok(())
 }
 
-/// Refuses `mac` exactly if it is not the tag of a message that was decrypted; then every byte of `m` is `ERASED`. Both
-/// end the state. `m` is the whole message, or empty.
+/// Refuses `mac` exactly if it is not the tag of a message that was decrypted or checked; then every byte of `m` is
+/// `ERASED`. Both end the state. `m` is the whole message, or empty, as it must be after a check.
 #[inline(never)]
 pub fn decrypt_final<S: SavedLanes>(st: &mut State, m: &mut [u8], mac: &[u8]) -> Result<(), Refusal>
     ensures { StateDecryptFinal (Some S.VARIANT) st.old st.new m.old m.new mac.now
         (code_of result) }
 {
-    check_state(st, MESSAGE, DECRYPTING)?;
-    if m.len() > 0 && m.len() as u64 != st.context.message_bytes {
-        return Err(Refusal::WrongMessageLength);
-    }
+    check_state(st, MESSAGE, reading_role(st))?;
+    check_given(st, m.len())?;
     let is_right = if let Some(tag) = mac.as_array() {
         st.context.has_tag::<S, 16>(tag)
     } else if let Some(tag) = mac.as_array() {
