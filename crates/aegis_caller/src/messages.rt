@@ -3,6 +3,7 @@
 pub mod any_variant;
 pub mod chunks;
 pub mod comes_back;
+pub mod counted;
 pub mod encrypted_file;
 pub mod headline;
 pub mod in_parts;

@@ -2,6 +2,7 @@
 
 mod memory;
 
+use aegis_lines::answer_line;
 use aegis_session::run;
 use std::io::ErrorKind;
 use std::test::Fail;
@@ -32,34 +33,124 @@ fn answers_a_thousand_lines(rt: HostRuntime) -> Result<(), Fail> {
     Ok(())
 }
 
+// Lines, their answers, and the exit status of a run on each alone.
+const LINES: [(&str, &str, u8); 14] = [
+    (ROUND, "63636363636363636363636363636363", 0),
+    (STREAM, "-", 0),
+    (
+        "stream aegis128l 59454c4c4f57205355424d4152494e45 00000000000000000000000000000000 65537",
+        "error length",
+        1,
+    ),
+    (
+        "mac aegis128l 16 59454c4c4f57205355424d4152494e45 00000000000000000000000000000000 -,61,-",
+        "7b1e31c93ef8a9b70d3a7aae2980d6a0",
+        0,
+    ),
+    (
+        "mac aegis128l 16 59454c4c4f57205355424d4152494e45 00000000000000000000000000000000 ,",
+        "error hex",
+        1,
+    ),
+    (
+        "seal aegis128l 24 59454c4c4f57205355424d4152494e45 00000000000000000000000000000000 - -",
+        "error tag",
+        1,
+    ),
+    (
+        "seal aegis128l 016 59454c4c4f57205355424d4152494e45 00000000000000000000000000000000 - -",
+        "error tag",
+        1,
+    ),
+    (
+        "seal Aegis128L 16 59454c4c4f57205355424d4152494e45 00000000000000000000000000000000 - -",
+        "error variant",
+        1,
+    ),
+    (
+        "seal aegis128l 16 59454c4c4f57205355424d4152494e4 00000000000000000000000000000000 - -",
+        "error hex",
+        1,
+    ),
+    // A key of 15 bytes.
+    (
+        "seal aegis128l 16 59454c4c4f57205355424d4152494e 00000000000000000000000000000000 - -",
+        "error length",
+        1,
+    ),
+    (
+        "round  00000000000000000000000000000000 00000000000000000000000000000000",
+        "error fields",
+        1,
+    ),
+    (
+        " round 00000000000000000000000000000000 00000000000000000000000000000000",
+        "error command",
+        1,
+    ),
+    (
+        "Round 00000000000000000000000000000000 00000000000000000000000000000000",
+        "error command",
+        1,
+    ),
+    (
+        "openrec 0000000000000000000000000000000000000000000000000000000000000000 000000000000000000000000000000000000000000000000 - -",
+        "refused header",
+        0,
+    ),
+];
+
+#[test]
+fn lines_alone(rt: HostRuntime) -> Result<(), Fail> {
+    for (line, expected, wanted) in LINES {
+        let answer = answer_line(rt.alloc(), line.as_bytes())?;
+        assert_eq!(rt; answer.as_slice(), expected.as_bytes(), "{line}");
+        let mut output = Vec::new(rt.alloc());
+        let status = run(rt.alloc(), &mut line.as_bytes(), &mut output);
+        assert_eq!(rt; status, wanted, "{line}");
+        assert_eq!(rt; output.pop(), Some(b'\n'), "{line}");
+        assert_eq!(rt; output.as_slice(), expected.as_bytes(), "{line}");
+    }
+    Ok(())
+}
+
 // Inputs whose ends of lines, or bytes, are unusual, their answers and the status.
 #[test]
 fn unusual_inputs(rt: HostRuntime) -> Result<(), Fail> {
-    let cases: [(&[u8], &str, &str, u8); 6] = [
-        (b"", "", "", 0),
-        (b"\n", "", "error command\n", 1),
-        (b"\xff\n", "", "error command\n", 1),
-        (b"", ROUND, ROUND_ANSWER, 0),
+    let cases: [(&[u8], &str, &str, &str, u8); 8] = [
+        (b"", "", "", "", 0),
+        (b"\n", "", "", "error command\n", 1),
+        (b"\xff\n", "", "", "error command\n", 1),
+        (b"", ROUND, "", ROUND_ANSWER, 0),
+        (b"", ROUND, "\r\n", ROUND_ANSWER, 0),
+        (b"", ROUND, "\r\r\n", "error hex\n", 1),
         (
             b"\xff\n",
             ROUND,
+            "",
             "error command\n63636363636363636363636363636363\n",
             1,
         ),
         (
             b"\n\n",
             " ",
+            "",
             "error command\nerror command\nerror command\n",
             1,
         ),
     ];
-    for (start, end, expected, wanted) in cases {
+    for (start, line, end, expected, wanted) in cases {
         let mut input = Vec::from_slice(rt.alloc(), start)?;
+        input.extend_from_slice(line.as_bytes())?;
         input.extend_from_slice(end.as_bytes())?;
         let mut output = Vec::new(rt.alloc());
         let status = run(rt.alloc(), &mut input.as_slice(), &mut output);
-        assert_eq!(rt; status, wanted, "{start:?} {end}");
-        assert_eq!(rt; output.as_slice(), expected.as_bytes(), "{start:?} {end}");
+        assert_eq!(rt; status, wanted, "{start:?} {line} {end:?}");
+        assert_eq!(rt;
+            output.as_slice(),
+            expected.as_bytes(),
+            "{start:?} {line} {end:?}"
+        );
     }
     Ok(())
 }

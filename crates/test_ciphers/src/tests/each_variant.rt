@@ -4,18 +4,20 @@
 //! - `messages_in_chunks`: two rate blocks and a byte, one byte at a time, and split near the end of a rate block.
 //! - `chunks_that_do_not_fit`: chunks that are too long, between others that are not.
 //! - `dropped_decryptors`: what a dropped decryptor leaves, and a wrong tag of the empty message.
-//! - `empty_messages`: three ways to encrypt one, and its decryption.
-//! - `keystreams_of_both_tag_lengths`: the ciphertext of zeros, over any old bytes of the buffer.
+//! - `empty_messages`: three ways to encrypt one, its decryption, and a wrong tag.
+//! - `keystreams_of_both_tag_lengths`: the ciphertext of zeros, over any old bytes of the buffer, and the message that
+//!   is xored with the keystream twice.
 
 ghost use Rattle.std.specs.Prelude.{◌≤◌, length};
 ghost use Rattle.aegis_base.specs.Lane.{IsTagLength};
 
 use crate::tests::assert_bytes;
-use aegis::{Decryptor, Encryptor, Error};
+use aegis::{Decryptor, Encryptor, Error, chunks_len};
 use aegis_base::LaneState;
 use aegis_variants::{AnyCipher, VARIANTS, with_cipher, with_mac};
 use std::process::Abort;
-use test_tools::calls::{ASSOCIATED_DATA, MESSAGE, keyed};
+use std::test::Fail;
+use test_tools::calls::{ASSOCIATED_DATA, MESSAGE, keyed, stream_xor};
 
 const TOO_SMALL: Result<(), Error> = Err(Error::OutputBufferTooSmall);
 
@@ -244,6 +246,49 @@ fn check_chunks<R: Abort, const TAG_BYTES: usize>(rt: &R, cipher: &AnyCipher, si
     assert_start(rt, &destination, &[7; 257], count);
 }
 
+// Splits a message one byte before the end of its first rate block, at this end and one byte after it, with an empty
+// chunk between each two.
+fn check_splits<R: Abort, const TAG_BYTES: usize>(rt: &R, cipher: &AnyCipher)
+    requires { IsTagLength TAG_BYTES }
+{
+    let rate = cipher.variant().rate();
+    let count = 2 * rate + 1;
+    let mut expected = [7; 257];
+    let expected = &mut expected[..count];
+    let expected_tag: [u8; TAG_BYTES] = cipher.encrypt_in_place(expected, &ASSOCIATED_DATA);
+    let message = [7; 257];
+    let chunks = [
+        &message[..rate - 1],
+        [].as_slice(),
+        &message[rate - 1..rate],
+        [].as_slice(),
+        &message[rate..rate + 1],
+        [].as_slice(),
+        &message[rate + 1..count],
+    ];
+    assert_eq!(rt; chunks_len(&chunks), Some(count as u64));
+    let mut sealed = [0; 257];
+    let sealed = &mut sealed[..count];
+    let tag: [u8; TAG_BYTES] = cipher.seal_chunks(&ASSOCIATED_DATA, &chunks, sealed);
+    assert_bytes(rt, sealed, expected, &"split");
+    assert_bytes(rt, &tag, &expected_tag, &"split");
+
+    let whole = &sealed[..];
+    let chunks = [
+        &whole[..rate - 1],
+        [].as_slice(),
+        &whole[rate - 1..rate],
+        [].as_slice(),
+        &whole[rate..rate + 1],
+        [].as_slice(),
+        &whole[rate + 1..],
+    ];
+    let mut destination = [0xaa; 257];
+    let opened = opened_by_one_call(cipher, &chunks, &tag, &mut destination);
+    assert_eq!(rt; opened, Ok(count));
+    assert_start(rt, &destination, &[7; 257], count);
+}
+
 #[test]
 fn messages_in_chunks(rt: HostRuntime) {
     for variant in VARIANTS {
@@ -252,6 +297,8 @@ fn messages_in_chunks(rt: HostRuntime) {
             check_chunks::<_, 16>(&rt, &keyed(variant), size);
             check_chunks::<_, 32>(&rt, &keyed(variant), size);
         }
+        check_splits::<_, 16>(&rt, &keyed(variant));
+        check_splits::<_, 32>(&rt, &keyed(variant));
     }
 }
 
@@ -273,8 +320,13 @@ fn check_fit<R: Abort, const TAG_BYTES: usize>(rt: &R, cipher: &AnyCipher)
         (&bytes[..1], TOO_SMALL),
     ];
     let mut destination = [0xaa; 385];
-    let opened = opened(rt, cipher, &steps, Some(&tag), &mut destination[..count]);
-    assert_eq!(rt; opened, Ok(count));
+    let found = opened(rt, cipher, &steps, Some(&tag), &mut destination[..count]);
+    assert_eq!(rt; found, Ok(count));
+    assert_start(rt, &destination, &[7; 385], count);
+    let steps = [(&bytes[..count + 1], TOO_SMALL), (&bytes[..count], Ok(()))];
+    let mut destination = [0xaa; 385];
+    let found = opened(rt, cipher, &steps, Some(&tag), &mut destination[..count]);
+    assert_eq!(rt; found, Ok(count));
     assert_start(rt, &destination, &[7; 385], count);
 
     // A chunk that does not fit is skipped.
@@ -356,6 +408,10 @@ fn check_empty<R: Abort, const TAG_BYTES: usize>(rt: &R, cipher: &AnyCipher)
     });
     assert_bytes(rt, &with, &tag, &"with an empty chunk");
     assert_eq!(rt; opened(rt, cipher, &[], Some(&tag), &mut []), Ok(0));
+    let mut wrong = tag;
+    wrong[0] ^= 1;
+    let rejected = cipher.decrypt_in_place(&mut [], &wrong, &ASSOCIATED_DATA);
+    assert_answer(rt, rejected, Err(WRONG_TAG));
 }
 
 #[test]
@@ -366,7 +422,16 @@ fn empty_messages(rt: HostRuntime) {
     }
 }
 
-fn check_keystream<R: Abort, const TAG_BYTES: usize>(rt: &R, cipher: &AnyCipher)
+fn xor_in_place<const TAG_BYTES: usize>(cipher: &AnyCipher, buffer: &mut [u8])
+    requires { IsTagLength TAG_BYTES }
+{
+    with_cipher!(cipher, TAG_BYTES, cipher => cipher.stream_xor_in_place(buffer))
+}
+
+fn check_keystream<R: Abort + AllocGlobal, const TAG_BYTES: usize>(
+    rt: &R,
+    cipher: &AnyCipher,
+) -> Result<(), Fail>
     requires { IsTagLength TAG_BYTES }
 {
     let mut stream = [0xa5; 515];
@@ -374,12 +439,21 @@ fn check_keystream<R: Abort, const TAG_BYTES: usize>(rt: &R, cipher: &AnyCipher)
     let mut sealed = [0; 515];
     let _tag: [u8; TAG_BYTES] = cipher.encrypt_in_place(&mut sealed, &[]);
     assert_bytes(rt, &stream, &sealed, &TAG_BYTES);
+
+    let mut buffer = *b"AEGIS is fast";
+    xor_in_place::<TAG_BYTES>(cipher, &mut buffer);
+    let xored = stream_xor::<_, TAG_BYTES>(cipher, rt.alloc(), b"AEGIS is fast")?;
+    assert_bytes(rt, &xored, &buffer, &"xored once");
+    xor_in_place::<TAG_BYTES>(cipher, &mut buffer);
+    assert_bytes(rt, &buffer, b"AEGIS is fast", &"xored twice");
+    Ok(())
 }
 
 #[test]
-fn keystreams_of_both_tag_lengths(rt: HostRuntime) {
+fn keystreams_of_both_tag_lengths(rt: HostRuntime) -> Result<(), Fail> {
     for variant in VARIANTS {
-        check_keystream::<_, 16>(&rt, &keyed(variant));
-        check_keystream::<_, 32>(&rt, &keyed(variant));
+        check_keystream::<_, 16>(&rt, &keyed(variant))?;
+        check_keystream::<_, 32>(&rt, &keyed(variant))?;
     }
+    Ok(())
 }

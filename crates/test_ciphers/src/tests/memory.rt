@@ -11,20 +11,24 @@ use std::test::Fail;
 use test_tools::calls::{ASSOCIATED_DATA, keyed, stream_xor};
 use test_tools::memory::Rationed;
 
-// Asserts the error of a call: without any request it is `OutOfMemory`, even if the tag is wrong. No request is left.
+// Asserts what a call returned: without any request `OutOfMemory`, even if the tag is wrong, and otherwise the same as
+// with enough memory. No request is left.
 fn assert_ended<R: Abort, A: Allocator>(
     rt: &R,
-    error: Option<Error>,
-    otherwise: Option<Error>,
+    found: Result<Vec<u8, &Rationed<A>>, Error>,
+    otherwise: Result<&[u8], Error>,
     requests: u64,
     heap: &Rationed<A>,
 ) {
     let expected = if requests == 0 {
-        Some(Error::OutOfMemory)
+        Err(Error::OutOfMemory)
     } else {
         otherwise
     };
-    assert_eq!(rt; error, expected);
+    match found {
+        Ok(bytes) => assert_eq!(rt; Ok(bytes.as_slice()), expected),
+        Err(error) => assert_eq!(rt; Err(error), expected),
+    }
     assert_eq!(rt; heap.left(), 0);
 }
 
@@ -35,14 +39,14 @@ fn check_opening<R: Abort + AllocGlobal, const TAG_BYTES: usize>(
     ciphertext: &[u8],
     tag: &[u8; TAG_BYTES],
     requests: u64,
-    otherwise: Option<Error>,
+    otherwise: Result<&[u8], Error>,
 )
     requires tag { IsTagLength TAG_BYTES }
     requires ciphertext { length ciphertext.now ≤ 65537 }
 {
     let heap = Rationed::new(rt.alloc(), requests);
     let opened = cipher.decrypt(&heap, ciphertext, tag, &ASSOCIATED_DATA);
-    assert_ended(rt, opened.err(), otherwise, requests, &heap);
+    assert_ended(rt, opened, otherwise, requests, &heap);
 }
 
 // Seals a message and xors it with the keystream into a vector, and opens what is sealed.
@@ -55,27 +59,29 @@ fn check_each<R: Abort + AllocGlobal, const TAG_BYTES: usize>(
     requires tag { IsTagLength TAG_BYTES }
     requires message { length message.now ≤ 65537 }
 {
-    let heap = Rationed::new(rt.alloc(), requests);
-    let sealed = cipher.encrypt::<_, TAG_BYTES>(&heap, message, &ASSOCIATED_DATA);
-    assert_ended(rt, sealed.err(), None, requests, &heap);
-    let heap = Rationed::new(rt.alloc(), requests);
-    let xored = stream_xor::<_, TAG_BYTES>(cipher, &heap, message);
-    assert_ended(rt, xored.err(), None, requests, &heap);
-
     let mut buffer = Vec::from_slice(rt.alloc(), message)?;
     let sealed: &mut [u8] = &mut buffer;
     let tag = cipher.encrypt_in_place::<TAG_BYTES>(sealed, &ASSOCIATED_DATA);
-    check_opening(rt, cipher, sealed, &tag, requests, None);
+    let heap = Rationed::new(rt.alloc(), requests);
+    let found = match cipher.encrypt::<_, TAG_BYTES>(&heap, message, &ASSOCIATED_DATA) {
+        Ok(found) => {
+            let found_tag = found.1;
+            assert_eq!(rt; found_tag, tag);
+            Ok(found.0)
+        }
+        Err(error) => Err(error),
+    };
+    assert_ended(rt, found, Ok(sealed), requests, &heap);
+
+    let expected = stream_xor::<_, TAG_BYTES>(cipher, rt.alloc(), message)?;
+    let heap = Rationed::new(rt.alloc(), requests);
+    let xored = stream_xor::<_, TAG_BYTES>(cipher, &heap, message);
+    assert_ended(rt, xored, Ok(&expected), requests, &heap);
+
+    check_opening(rt, cipher, sealed, &tag, requests, Ok(message));
     let mut wrong = tag;
     wrong[0] ^= 1;
-    check_opening(
-        rt,
-        cipher,
-        sealed,
-        &wrong,
-        requests,
-        Some(Error::InvalidTag),
-    );
+    check_opening(rt, cipher, sealed, &wrong, requests, Err(Error::InvalidTag));
     Ok(())
 }
 

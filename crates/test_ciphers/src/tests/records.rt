@@ -69,11 +69,12 @@ fn migrated<A: Allocator + Copy>(alloc: A, stream: &[u8]) -> Result<Vec<u8, A>, 
     migrate(alloc, &KEY, &PREFIX, &NEW_PREFIX, &CONTEXT, stream)
 }
 
-// Whether the stored stream opens to the messages, and migrates to a stream that does too.
+// Whether the stored stream opens to the messages, and migrates to a stream of version 2 that does too.
 fn comes_back<A: Allocator + Copy>(alloc: A) -> Result<bool, RecordError> {
     let is_opened = opens_to_messages(alloc, &PREFIX, &FIRST)?;
     let new = migrated(alloc, &FIRST)?;
-    Ok(opens_to_messages(alloc, &NEW_PREFIX, &new)? && is_opened)
+    let is_second = new.len() == 81 && new.as_slice().starts_with(b"AGR2");
+    Ok(opens_to_messages(alloc, &NEW_PREFIX, &new)? && is_opened && is_second)
 }
 
 // The errors of a stream of the two messages that is truncated, in whose tags a byte was changed, or whose prefix has
@@ -93,6 +94,8 @@ fn check_faults<R: Abort + AllocGlobal>(rt: &R, stream: &[u8; 81]) {
         damaged[9] ^= first;
         damaged[80] ^= last;
         let rejected = opens_to_messages(rt.alloc(), &PREFIX, &damaged).err();
+        assert_error(rt, rejected, RecordError::Damaged(number), &(first, last));
+        let rejected = migrated(rt.alloc(), &damaged).err();
         assert_error(rt, rejected, RecordError::Damaged(number), &(first, last));
     }
     for at in [0, 23usize] {
@@ -280,16 +283,6 @@ fn opens_again<A: Allocator + Copy>(alloc: A, message: &[u8]) -> Result<bool, Re
     opens_to(alloc, &PREFIX, &stream, message)
 }
 
-// Whether the stream of a message migrates to one that opens to it.
-fn migrates<A: Allocator + Copy>(alloc: A, message: &[u8]) -> Result<bool, RecordError>
-    requires { length message.now ≤ MAX_MESSAGE_BYTES }
-{
-    let messages = [message];
-    let stream = seal_records(alloc, &KEY, &PREFIX, &CONTEXT, &messages)?;
-    let new = migrated(alloc, &stream)?;
-    opens_to(alloc, &NEW_PREFIX, &new, message)
-}
-
 #[test]
 fn the_longest_message(rt: HostRuntime) -> Result<(), Fail> {
     let message = vec![in rt.alloc(); 0x5au8; MAX_MESSAGE_BYTES]?;
@@ -300,6 +293,11 @@ fn the_longest_message(rt: HostRuntime) -> Result<(), Fail> {
 #[test]
 fn a_long_message_migrates(rt: HostRuntime) -> Result<(), Fail> {
     let message = vec![in rt.alloc(); 0x5au8; 65_537]?;
-    assert!(rt; migrates(rt.alloc(), &message)?);
+    let messages = [message.as_slice()];
+    let stream = seal_records(rt.alloc(), &KEY, &PREFIX, &CONTEXT, &messages)?;
+    let new = migrated(rt.alloc(), &stream)?;
+    assert!(rt; stream.len() == 65_578 && new.len() == 65_578);
+    assert!(rt; opens_to(rt.alloc(), &PREFIX, &stream, &message)?);
+    assert!(rt; opens_to(rt.alloc(), &NEW_PREFIX, &new, &message)?);
     Ok(())
 }

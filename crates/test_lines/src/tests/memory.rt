@@ -1,5 +1,5 @@
-//! No memory in the line program: each allocation refused in turn. Long lines: the memory that one takes, and many
-//! records.
+//! No memory in the line program: each allocation refused in turn. Long lines: the memory that one takes, many records,
+//! a long record, and the longest keystream.
 
 use aegis::Error;
 use aegis::aegis128l::Aegis128L;
@@ -130,5 +130,31 @@ fn many_records(rt: HostRuntime) -> Result<(), Fail> {
     assert!(rt; opened.as_slice().starts_with(b"ok "));
     assert!(rt; opened.as_slice().ends_with(&messages));
     assert_eq!(rt; opened.len(), 3 + messages.len());
+    Ok(())
+}
+
+// A message of 65,537 bytes, which the first version of record streams does not allow.
+#[test]
+fn a_long_record(rt: HostRuntime) -> Result<(), Fail> {
+    let digits = vec![in rt.alloc(); b'6'; 2 * 65_537]?;
+    let sealed = answered(rt.alloc(), b"sealrec", &digits)?;
+    assert_eq!(rt; sealed.len(), 2 * 65_578);
+    assert!(rt; sealed.as_slice().starts_with(b"414752320101000100"));
+    let opened = answered(rt.alloc(), b"openrec", &sealed)?;
+    assert!(rt; opened.as_slice().starts_with(b"ok 66"));
+    assert!(rt; opened.as_slice().ends_with(&digits));
+    assert_eq!(rt; opened.len(), 3 + digits.len());
+    Ok(())
+}
+
+#[test]
+fn the_longest_keystream(rt: HostRuntime) -> Result<(), Fail> {
+    let mut expected = vec![in rt.alloc(); 0; 65_536]?;
+    Aegis128L::<16>::new(&[7; 16], &[7; 16]).stream(&mut expected);
+    let line =
+        b"stream aegis128l 07070707070707070707070707070707 07070707070707070707070707070707 65536";
+    let answer = answer_line(rt.alloc(), line)?;
+    let expected = hex::encode(rt.alloc(), &expected)?;
+    assert!(rt; answer.as_slice() == expected.as_bytes());
     Ok(())
 }
