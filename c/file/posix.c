@@ -56,8 +56,8 @@ static int transfer(int fd, uint8_t *in, const uint8_t *out, size_t length, uint
         off_t at = (off_t)(place + done);
         ssize_t count =
             in != NULL ? pread(fd, in + done, length - done, at) : pwrite(fd, out + done, length - done, at);
-        if (count == 0 && in != NULL) {
-            return HUNKRAVY_DAMAGED_PAGE;
+        if (count == 0) {
+            return in != NULL ? HUNKRAVY_DAMAGED_PAGE : EIO;
         }
         if (count < 0 && errno != EINTR) {
             return errno;
@@ -189,10 +189,9 @@ static int make_room(int fd, uint64_t from, uint64_t end)
     struct stat found;
     int code;
     TRY(look(fd, &found));
-    do {
-        code = fallocate(fd, 0, (off_t)from, (off_t)(end - from)) == 0 ? 0 : errno;
-    } while (code == EINTR);
-    if (code == EOPNOTSUPP) {
+    code = fallocate(fd, 0, (off_t)from, (off_t)(end - from)) == 0 ? 0 : errno;
+    /* An older tmpfs undoes what a signal interrupts, so with signals at regular times it might never be done. */
+    if (code == EOPNOTSUPP || code == EINTR) {
         code = write_zeros(fd, from, end);
     }
     if (code != 0) {

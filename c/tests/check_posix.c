@@ -1,6 +1,6 @@
 /*
- * Random-access files of the system: what other programs do to one while it is created, a sync that fails, and the calls of a
- * creation, of a commit and of a recovery, in order. The program is linked with --wrap for the calls below; otherwise it does
+ * Random-access files of the system: what other programs do to one while it is created, a sync that fails, signals, and the
+ * calls of a creation, of a commit and of a recovery, in order. The program is linked with --wrap for the calls below; otherwise it does
  * nothing. What a loss of power leaves is tested in testkit/disk.
  */
 #ifndef _GNU_SOURCE
@@ -34,6 +34,7 @@ static int is_let(void)
 /* The calls that change something, each with what it changes. */
 static char calls[1000];
 static int writes_left = ALL;
+static int interruptions, takes_none;
 
 static void note(const char *call, int fd)
 {
@@ -56,11 +57,11 @@ static void note(const char *call, int fd)
 
 WRAPPED(int, flock, (int fd, int operation), (fd, operation), , is_let())
 WRAPPED(int, fsync, (int fd), (fd), note("sync", fd), is_let() && syncs_left-- != 0)
-WRAPPED(ssize_t, pwrite, (int fd, const void *bytes, size_t length, off_t place), (fd, bytes, length, place),
-    note("write", fd), writes_left-- != 0)
+WRAPPED(ssize_t, pwrite, (int fd, const void *bytes, size_t length, off_t place),
+    (fd, bytes, takes_none ? 0 : length, place), note("write", fd), writes_left-- != 0)
 WRAPPED(int, ftruncate, (int fd, off_t length), (fd, length), note("resize", fd), 1)
-WRAPPED(
-    int, fallocate, (int fd, int mode, off_t place, off_t length), (fd, mode, place, length), note("reserve", fd), 1)
+WRAPPED(int, fallocate, (int fd, int mode, off_t place, off_t length), (fd, mode, place, length), note("reserve", fd),
+    (errno = interruptions > 0 ? EINTR : 0, interruptions-- <= 0))
 WRAPPED(int, posix_fadvise, (int fd, off_t place, off_t length, int advice), (fd, place, length, advice),
     note("forget", fd), 1)
 WRAPPED(int, rename, (const char *from, const char *to), (from, to), strcat(calls, "rename, "), 1)
@@ -163,6 +164,33 @@ static void check_order(void)
     HOLDS(hunkravy_file_close(opened) == 0 && unlink(path) == 0);
 }
 
+/* A commit ends although signals interrupt each try to reserve room. */
+static void check_signals(void)
+{
+    hunkravy_file *opened;
+    HOLDS(hunkravy_file_create(&opened, path, HUNKRAVY_AEGIS256, key, sizeof key, 0) == 0);
+    HOLDS(hunkravy_file_write(opened, 0, "before", 6) == 0);
+    calls[0] = '\0';
+    interruptions = 5;
+    HOLDS(hunkravy_file_commit(opened) == 0);
+    interruptions = 0;
+    expect_calls("reserve file, write file, sync file, write journal, sync journal, sync folder, write journal, "
+                 "sync journal, write file, write file, write file, sync file, resize journal, sync journal, ");
+    HOLDS(hunkravy_file_close(opened) == 0 && unlink(path) == 0);
+}
+
+/* A write that takes no byte, and has no error, fails. */
+static void check_empty_writes(void)
+{
+    hunkravy_file *opened;
+    HOLDS(hunkravy_file_create(&opened, path, HUNKRAVY_AEGIS256, key, sizeof key, 0) == 0);
+    HOLDS(hunkravy_file_write(opened, 0, "before", 6) == 0);
+    takes_none = 1;
+    HOLDS(hunkravy_file_commit(opened) == EIO && hunkravy_file_check(opened) == 0);
+    takes_none = 0;
+    HOLDS(hunkravy_file_commit(opened) == 0 && hunkravy_file_close(opened) == 0 && unlink(path) == 0);
+}
+
 int main(void)
 {
     char folder[] = "/tmp/check_posix-XXXXXX";
@@ -173,6 +201,8 @@ int main(void)
     snprintf(path, sizeof path, "%s/file", folder);
     check_creations();
     check_order();
+    check_signals();
+    check_empty_writes();
     printf("random-access files of the system: %lu checks\n", checks);
     return rmdir(folder) == 0 ? EXIT_SUCCESS : EXIT_FAILURE;
 }

@@ -52,17 +52,16 @@ pub fn unlock(file: &File) -> io::Result<()> {
 }
 
 /// Takes room on the disk for the bytes from `from` to `end`. Returns whether the file system can. The file becomes as long.
+///
+/// It also returns false after a signal: an older tmpfs undoes what that interrupts, so another try might never be done.
 pub fn take_room(file: &File, from: u64, end: u64) -> io::Result<bool> {
     let too_far = |_| io::Error::from(ErrorKind::InvalidInput);
     let offset = i64::try_from(from).map_err(too_far)?;
     let length = i64::try_from(end - from).map_err(too_far)?;
-    loop {
-        match result_of(fallocate(file.as_raw_fd(), 0, offset, length)) {
-            Ok(()) => return Ok(true),
-            Err(error) if error.raw_os_error() == Some(EOPNOTSUPP) => return Ok(false),
-            Err(error) if error.kind() == ErrorKind::Interrupted => (),
-            Err(error) => return Err(error),
-        }
+    match result_of(fallocate(file.as_raw_fd(), 0, offset, length)) {
+        Ok(()) => Ok(true),
+        Err(error) if error.raw_os_error() == Some(EOPNOTSUPP) || error.kind() == ErrorKind::Interrupted => Ok(false),
+        Err(error) => Err(error),
     }
 }
 
