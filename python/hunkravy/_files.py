@@ -124,7 +124,7 @@ class SealedWriter(Sealed):
     `key` has 32 bytes. The file is complete once `close` has returned, or a `with` block of the writer has ended
     without an exception. After an exception in the block or of `write`, or if the writer is dropped, the file does not open.
     If `close` raises an exception, the file may be complete or not. `file` is not closed. It has to block: if it takes no
-    byte, `BlockingIOError` is raised.
+    byte, `BlockingIOError` is raised. In a forked process the writer raises `OSError`, and writes nothing.
 
     Bytes are written in pieces of 65,536. `close` writes the last piece, and `flush` does not. In a `with` block
     `close` takes effect at its end, so an `io.TextIOWrapper` inside it may close the writer.
@@ -137,6 +137,7 @@ class SealedWriter(Sealed):
     def __init__(self, file: BinaryIO, key: _ReadableBuffer) -> None:
         super().__init__(file)
         self._is_entered = False
+        self._process = os.getpid()
         prefix = os.urandom(PREFIX_BYTES)
         self._records = _native.Records(key, prefix, CONTEXT)
         self._record = bytearray(RECORD_BYTES + PIECE_BYTES)
@@ -217,6 +218,9 @@ class SealedWriter(Sealed):
             warnings.warn(f"{type(self).__name__} was not closed: its file is incomplete", ResourceWarning, source=self)
 
     def _check_may_finish(self) -> None:
+        # A wrapper that is freed in a forked process would seal other contents there under the same nonces.
+        if self._process != os.getpid():
+            raise OSError("the file cannot be completed: another process has made its writer")
         if not self._may_finish:
             raise OSError("the file cannot be completed: an earlier write failed")
 

@@ -46,8 +46,9 @@ class RandomAccessFile(variants.Secret, _native.RandomAccessFile):
     commit that was interrupted, or discards all of it. `create` makes an empty one.
 
     Changes stay in memory until a commit: `commit`, the end of the outermost `batch`, `close`, the end of a `with` block,
-    or outside a batch a write after which more than 16 MiB are changed. **After a crash all changes of a commit are there,
-    or none.** A commit first writes them to the journal, the file `PATH.journal`, and removes it at the end.
+    or outside a batch a write or a growing `truncate` after which more than 16 MiB are changed. **After a crash all
+    changes of a commit are there, or none.** A commit first writes them to the journal, the file `PATH.journal`, and
+    removes it at the end.
 
     The file is locked while it is open, and belongs to the process that opened it. As in `sqlite3` only the thread that
     opened it may use it, unless `check_same_thread` is false. Then calls wait for each other, and threads have to take
@@ -70,7 +71,8 @@ class RandomAccessFile(variants.Secret, _native.RandomAccessFile):
     def open_stream(self) -> RandomAccessStream:
         """Returns a raw file object with a position of its own, for example for `tarfile`, `zipfile` or `io.BufferedRandom`.
 
-        Closing it commits, outside a batch. The file stays open. Undoing a batch does not move the position back.
+        Closing it commits, outside a batch, and so does its `flush`. That of an `io.BufferedRandom` over it does not: it
+        only makes the changes. The file stays open. Undoing a batch does not move the position back.
         """
         return RandomAccessStream(self)
 
@@ -125,6 +127,15 @@ class RandomAccessStream(variants.Secret, RawFile):  # type: ignore[misc]
     def truncate(self, size: Optional[int] = None) -> int:
         """Truncates or extends the contents to `size` bytes, or to the position."""
         return self._open_file().truncate(self._position if size is None else size)
+
+    def close(self) -> None:
+        """Commits, unless in a batch or in a process that did not open the file."""
+        try:
+            super().close()
+        except RandomAccessError as error:
+            # It has no changes there, and an exception by which the process ends goes on.
+            if error.cause != "locked":
+                raise
 
     def flush(self) -> None:
         """Commits, unless in a batch."""

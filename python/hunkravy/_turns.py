@@ -3,6 +3,7 @@
 from __future__ import annotations
 
 import contextlib
+import os
 import sys
 import threading
 from typing import Any, ContextManager, cast
@@ -17,18 +18,30 @@ def waited_for(lock: Any) -> ContextManager[Any]:
     return cast(ContextManager[Any], lock)
 
 
+forks = 0
+
+
+def count_fork() -> None:
+    global forks
+    forks += 1
+
+
+os.register_at_fork(after_in_child=count_fork)
+
+
 class Turns:
     """An object with a lock, so that threads take turns."""
 
     def __init__(self) -> None:
-        self._lock = threading.RLock()
-        self._owner = threading.Condition(self._lock)
+        # By the number of forks: after one a thread of the other process may have the lock, for ever.
+        self._locks: dict[int, threading.Condition] = {}
 
     def _turn(self) -> ContextManager[Any]:
         """Returns the lock. There is none if `__init__` has raised, and this thread may hold it in a method beneath."""
-        owner = vars(self).get("_owner")
-        if owner is None:
+        locks = vars(self).get("_locks")
+        if locks is None:
             return contextlib.nullcontext()
+        owner = locks.get(forks) or locks.setdefault(forks, threading.Condition())
         try:
             # Nothing waits for it. It raises unless this thread has the lock.
             owner.notify()
@@ -36,4 +49,4 @@ class Turns:
             pass
         else:
             raise RuntimeError("reentrant call")
-        return waited_for(self._lock)
+        return waited_for(owner)

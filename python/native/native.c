@@ -20,12 +20,6 @@
 
 /* ---- What the types share */
 
-/* What the module has of its own, whatever its names are bound to. */
-typedef struct {
-    PyObject *invalid_tag;
-    PyTypeObject *state;
-} Module;
-
 /* Returns the result if the code is HUNKRAVY_OK. Otherwise drops it, and returns null with the code's exception. */
 static void *result_of(void *object, int code, void *result)
 {
@@ -657,6 +651,8 @@ static int execute(PyObject *object)
         result = type == NULL ? -1 : PyModule_AddType(object, (PyTypeObject *)type);
         if (all[i]->slots == state_slots) {
             module->state = (PyTypeObject *)type;
+        } else if (all[i] == &file_spec) {
+            module->file = (PyTypeObject *)type;
         } else {
             Py_XDECREF(type);
         }
@@ -669,6 +665,7 @@ static int traverse(PyObject *object, visitproc visit, void *arg)
     const Module *module = PyModule_GetState(object);
     Py_VISIT(module->invalid_tag);
     Py_VISIT(module->state);
+    Py_VISIT(module->file);
     return 0;
 }
 
@@ -677,6 +674,7 @@ static int clear(PyObject *object)
     Module *module = PyModule_GetState(object);
     Py_CLEAR(module->invalid_tag);
     Py_CLEAR(module->state);
+    Py_CLEAR(module->file);
     return 0;
 }
 

@@ -56,6 +56,12 @@ static inline int natural(PyObject *given, void *result)
     return PyErr_Occurred() == NULL;
 }
 
+/* What the module has of its own, whatever its names are bound to. */
+typedef struct {
+    PyObject *invalid_tag;
+    PyTypeObject *state, *file;
+} Module;
+
 /* The types of random_access.c. */
 extern PyType_Spec file_spec, batch_spec;
 

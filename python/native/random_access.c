@@ -19,6 +19,8 @@ typedef struct {
     unsigned long thread;
     /* How many blocks of batches are being run. A batch may be undone before its block ends. */
     uint64_t blocks;
+    /* Whether the block of a batch was dropped, since no batch was open. */
+    bool has_dropped;
 } File;
 
 /* ---- Exceptions */
@@ -118,17 +120,38 @@ static bool begin(File *self)
     return self->file != NULL;
 }
 
-/* The same for a change. In a block whose batch was undone it would be in no batch, so there it fails. */
+/* Whether the block of a batch was dropped, so that nothing will be committed, until all batches are discarded or undone. */
+static bool has_dropped(File *self)
+{
+    self->has_dropped = self->has_dropped && hunkravy_file_open_batches(self->file) != 0;
+    return self->has_dropped;
+}
+
+static PyObject *raise_dropped(void)
+{
+    PyErr_SetString(PyExc_RuntimeError, "a batch was dropped and has not ended: discard the changes");
+    return NULL;
+}
+
+/*
+ * The same for a change. In a block whose batch was undone it would be in no batch, and after a batch whose block was
+ * dropped no later one would commit, so there it fails.
+ */
 static bool begin_change(File *self)
 {
     if (!begin(self)) {
         return false;
     }
-    if (self->blocks <= hunkravy_file_open_batches(self->file)) {
+    bool is_dropped = has_dropped(self), has_ended = self->blocks > hunkravy_file_open_batches(self->file);
+    if (!is_dropped && !has_ended) {
         return true;
     }
     PyThread_release_lock(self->lock);
-    PyErr_SetString(PyExc_RuntimeError, "the batch of this block has ended: it was undone or discarded");
+    if (is_dropped) {
+        (void)raise_dropped();
+    } else {
+        PyErr_SetString(PyExc_RuntimeError, "the batch of this block has ended: it was undone or discarded");
+    }
     return false;
 }
 
@@ -321,15 +344,28 @@ static int has_failed(PyObject *given)
     return !PyArg_ParseTuple(given, "OOO", &kind, &error, &traceback) ? -1 : kind != Py_None;
 }
 
+/*
+ * Whether the exception of a block goes on, and that of its end is dropped: in a process that did not open the file. There
+ * the code that would catch the other one is that of the process that did.
+ */
+static bool goes_on(const File *self, int failed)
+{
+    bool is_forked = failed > 0 && self->file != NULL && hunkravy_file_check(self->file) == HUNKRAVY_FILE_LOCKED;
+    if (is_forked) {
+        PyErr_Clear();
+    }
+    return is_forked;
+}
+
 static PyObject *file_exit(PyObject *object, PyObject *given)
 {
     int failed = has_failed(given);
     PyObject *result = failed > 0 && ((File *)object)->file != NULL ? file_discard(object, NULL) : Py_NewRef(Py_None);
-    if (failed < 0 || result == NULL) {
+    if (failed < 0 || (result == NULL && !goes_on((File *)object, failed))) {
         Py_XDECREF(result);
         return NULL;
     }
-    Py_DECREF(result);
+    Py_XDECREF(result);
     result = close_file((File *)object, !failed);
     if (result == NULL && failed > 0) {
         /* The exception of the block goes on: that the file is broken is not news. */
@@ -438,9 +474,10 @@ static PyObject *file_is_in_batch(PyObject *object, void *closure)
     if (!begin(self)) {
         return NULL;
     }
-    bool is_open = hunkravy_file_open_batches(self->file) != 0;
+    bool is_in_block =
+        !has_dropped(self) && self->blocks != 0 && self->blocks == hunkravy_file_open_batches(self->file);
     PyThread_release_lock(self->lock);
-    return PyBool_FromLong(is_open);
+    return PyBool_FromLong(is_in_block);
 }
 
 /* ---- Batches */
@@ -451,24 +488,17 @@ typedef struct {
     uint64_t number;
 } Batch;
 
-/* Whether an object is a file, of the type beside that of batches. Less than 0 is an error. */
-static int is_file(PyTypeObject *type_of_batches, PyObject *object)
-{
-    PyObject *type = PyObject_GetAttrString(PyType_GetModule(type_of_batches), "RandomAccessFile");
-    int is = type == NULL ? -1 : PyObject_IsInstance(object, type);
-    Py_XDECREF(type);
-    if (is == 0) {
-        PyErr_SetString(PyExc_TypeError, "a batch is one of a RandomAccessFile");
-    }
-    return is;
-}
-
 static PyObject *batch_new(PyTypeObject *type, PyObject *given, PyObject *named)
 {
+    const Module *module = PyType_GetModuleState(type);
     PyObject *file;
     (void)named;
-    if (!PyArg_ParseTuple(given, "O", &file) || is_file(type, file) != 1) {
+    if (!PyArg_ParseTuple(given, "O", &file)) {
         return NULL;
+    }
+    /* An object may say that it has another type than it has, as a proxy does. */
+    if (!PyObject_TypeCheck(file, module->file)) {
+        return PyErr_SetString(PyExc_TypeError, "a batch is one of a RandomAccessFile"), NULL;
     }
     Batch *self = (Batch *)PyType_GenericAlloc(type, 0);
     if (self != NULL) {
@@ -508,7 +538,7 @@ static void leave_block(Batch *self)
     }
 }
 
-/* Commits after the outermost block, unless that raised an exception. */
+/* Commits after the outermost block, unless that raised an exception. Undoes a batch that none will commit. */
 static PyObject *batch_exit(PyObject *object, PyObject *given)
 {
     Batch *self = (Batch *)object;
@@ -519,13 +549,18 @@ static PyObject *batch_exit(PyObject *object, PyObject *given)
         leave_block(self);
         Py_RETURN_NONE;
     }
-    if (failed < 0 || !begin(file)) {
+    bool has_begun = failed >= 0 && begin(file);
+    if (!has_begun && !goes_on(file, failed)) {
         return NULL;
     }
     leave_block(self);
+    if (!has_begun) {
+        Py_RETURN_NONE;
+    }
+    bool is_lost = !failed && has_dropped(file);
     CALL(file, code, page,
-        failed ? (hunkravy_file_undo(called, number), HUNKRAVY_OK) : hunkravy_file_end(called, number));
-    return result_of(code, page, NULL, Py_NewRef(Py_None));
+        failed || is_lost ? (hunkravy_file_undo(called, number), HUNKRAVY_OK) : hunkravy_file_end(called, number));
+    return is_lost ? raise_dropped() : result_of(code, page, NULL, Py_NewRef(Py_None));
 }
 
 static int batch_traverse(PyObject *object, visitproc visit, void *arg)
@@ -535,20 +570,15 @@ static int batch_traverse(PyObject *object, visitproc visit, void *arg)
     return 0;
 }
 
-static int batch_clear(PyObject *object)
-{
-    if (((Batch *)object)->file != NULL) {
-        leave_block((Batch *)object);
-    }
-    Py_CLEAR(((Batch *)object)->file);
-    return 0;
-}
-
 static void batch_free(PyObject *object)
 {
+    Batch *self = (Batch *)object;
+    File *file = (File *)self->file;
     PyTypeObject *type = Py_TYPE(object);
     PyObject_GC_UnTrack(object);
-    (void)batch_clear(object);
+    file->has_dropped = file->has_dropped || self->number != 0;
+    leave_block(self);
+    Py_DECREF(file);
     PyObject_GC_Del(object);
     Py_DECREF(type);
 }
@@ -559,9 +589,9 @@ static PyMethodDef batch_methods[] = {
     {NULL, NULL, 0, NULL},
 };
 
+/* A cycle with a batch has a subclass of files in it, which the collector clears. A batch without a file would be none. */
 static PyType_Slot batch_slots[] = {{Py_tp_new, SLOT(batch_new)}, {Py_tp_dealloc, SLOT(batch_free)},
-    {Py_tp_traverse, SLOT(batch_traverse)}, {Py_tp_clear, SLOT(batch_clear)}, {Py_tp_methods, batch_methods},
-    {0, NULL}};
+    {Py_tp_traverse, SLOT(batch_traverse)}, {Py_tp_methods, batch_methods}, {0, NULL}};
 
 PyType_Spec batch_spec = {"hunkravy._native.Batch", sizeof(Batch), 0, TYPE_FLAGS | Py_TPFLAGS_HAVE_GC, batch_slots};
 

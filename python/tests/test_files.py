@@ -21,6 +21,7 @@ from typing import Any, BinaryIO, Iterator, Optional, cast
 from unittest import mock
 
 from hunkravy import SealedFileError, SealedReader, SealedWriter, _native, read_key
+from processes import returns_in_a_fork
 
 DATA = pathlib.Path(__file__).parents[2] / "crates" / "hunkravy" / "data"
 KEY = read_key(DATA / "key")
@@ -342,6 +343,23 @@ class Writing(unittest.TestCase):
         with self.assertWarnsRegex(ResourceWarning, "was not closed: its file is incomplete$"):
             SealedWriter(file, KEY).write(b"contents")
         self.assert_incomplete(file)
+
+    def test_a_forked_process(self) -> None:
+        """There a writer writes nothing, also if a wrapper is closed that still has contents."""
+
+        def use() -> None:
+            self.assertRaises(OSError, writer.write, b"x")
+            self.assertRaises(OSError, text.close)
+            self.assertEqual(file.getvalue(), begun)
+
+        file = io.BytesIO()
+        writer = SealedWriter(file, KEY)
+        text = io.TextIOWrapper(writer)
+        text.write("contents")
+        begun = file.getvalue()
+        self.assertTrue(returns_in_a_fork(use))
+        text.close()
+        self.assertEqual(SealedReader(io.BytesIO(file.getvalue()), KEY).read(), b"contents")
 
     def test_files_that_write_little(self) -> None:
         with mock.patch("os.urandom", return_value=PREFIX):

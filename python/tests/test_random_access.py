@@ -22,8 +22,10 @@ import unittest
 import zipfile
 from collections.abc import Callable, Generator
 from typing import Any, Optional
+from unittest import mock
 
 from hunkravy import Aegis128L, Aegis256, RandomAccessError, RandomAccessFile, _native, _random_access
+from processes import returns_in_a_fork
 
 KEY = bytes(range(32))
 TABLE = pathlib.Path(__file__).parents[2] / "testkit" / "batches.txt"
@@ -189,11 +191,82 @@ class Files(unittest.TestCase):
             self.assertRaisesRegex(RuntimeError, "has ended", ended.__exit__, None, None, None)
         self.assertEqual(contents(self.path), b"after ")
         file = RandomAccessFile(self.path, KEY)
-        file.batch().__enter__()
+        batch = file.batch()
+        batch.__enter__()
         file.write_at(0, b"lost")
         self.assertRaisesRegex(RuntimeError, "has not ended", file.close)
         self.assertTrue(file.closed)
         self.assertEqual(contents(self.path), b"after ")
+
+    def test_a_batch_that_is_dropped(self) -> None:
+        """It has not ended, so nothing after it would be committed."""
+        with RandomAccessFile.create(self.path, KEY) as file:
+            stream = file.open_stream()
+            file.batch().__enter__()
+            calls: list[Callable[[], object]] = [file.batch().__enter__, file.commit, stream.flush]
+            calls += [lambda: file.write_at(0, b"x"), lambda: file.truncate(0), lambda: stream.write(b"x")]
+            for call in calls:
+                self.assertRaisesRegex(RuntimeError, "dropped", call)
+            file.discard()
+            with file.batch():
+                file.write_at(0, b"after")
+            file.batch().__enter__()
+            self.assertRaisesRegex(RuntimeError, "has not ended", file.close)
+        self.assertEqual(contents(self.path), b"after")
+
+    def test_a_batch_in_one_that_is_dropped(self) -> None:
+        """Its end raises an error, also if as many blocks as batches are open."""
+        with RandomAccessFile.create(self.path, KEY) as file:
+            outer = [file.batch()]
+            outer[0].__enter__()
+            with self.assertRaisesRegex(RuntimeError, "dropped"), file.batch():
+                file.write_at(0, b"lost")
+                outer.clear()
+            self.assertEqual(file.size, 0)
+            file.discard()
+            batches = [file.batch(), file.batch(), file.batch()]
+            for batch in batches:
+                batch.__enter__()
+            del batches[0], batch
+            batches[0].__exit__(ValueError, ValueError(), None)
+            for call in (file.batch().__enter__, file.open_stream().close, lambda: file.write_at(0, b"x")):
+                self.assertRaisesRegex(RuntimeError, "dropped", call)
+            file.discard()
+            self.assertRaisesRegex(RuntimeError, "has ended", batches[1].__exit__, None, None, None)
+            with file.batch():
+                file.write_at(0, b"after")
+        self.assertEqual(contents(self.path), b"after")
+
+    def test_the_collector_clears_no_batch(self) -> None:
+        """What a finalizer has made is freed between what the collector clears, and can find a batch there."""
+
+        class Seeker:
+            def __del__(self) -> None:
+                sought.extend(found.__exit__(None, None, None) for found in gc.get_objects() if type(found) is Batch)
+
+        class Maker:
+            def __del__(self) -> None:
+                self.made = Seeker()
+
+        Batch, sought = _native.Batch, []
+        gc.collect()
+        with RandomAccessFile.create(self.path, KEY) as file:
+            batch, maker = file.batch(), Maker()
+            batch.__enter__()
+            cycle: list[Any] = [batch, maker]
+            cycle += [cycle, [batch, cycle]]
+            del batch, maker, cycle
+            gc.collect()
+        self.assertEqual(sought, [None])
+
+    def test_a_batch_of_what_is_no_file(self) -> None:
+        class Lying:
+            __class__ = RandomAccessFile  # type: ignore[assignment]
+
+        kept: list[Any] = [Lying(), b"no file" * 10]
+        with mock.patch.object(_native, "RandomAccessFile", object):
+            for given in kept:
+                self.assertRaisesRegex(TypeError, "a batch is one of a", RandomAccessFile.batch, given)
 
     def test_signals(self) -> None:
         """A call that a handler's exception comes in is made whole, and an opening leaves no descriptor."""
@@ -275,22 +348,17 @@ class Files(unittest.TestCase):
                 begun.set()
                 forked.wait()
 
+        def use() -> None:
+            for call in (lambda: file.read_at(0, 1), lambda: file.write_at(0, b"x"), file.commit, file.batch().__enter__):
+                self.assertCause("locked", call)
+            file.close()
+
         begun, forked = threading.Event(), threading.Event()
         file = RandomAccessFile.create(self.path, KEY, check_same_thread=False)
         thread = threading.Thread(target=hold)
         thread.start()
         begun.wait(20)
-        child = os.fork()
-        if child == 0:
-            signal.alarm(10)
-            try:
-                for call in (lambda: file.read_at(0, 1), lambda: file.write_at(0, b"x"), file.commit, file.batch().__enter__):
-                    self.assertCause("locked", call)
-                file.close()
-            except BaseException:
-                os._exit(1)
-            os._exit(0)
-        self.assertEqual(os.waitpid(child, 0)[1], 0)
+        self.assertTrue(returns_in_a_fork(use))
         forked.set()
         thread.join()
         file.close()
@@ -307,20 +375,45 @@ class Files(unittest.TestCase):
                 with contextlib.suppress(ValueError):
                     file.read_at(0, 100)
 
+        def close() -> None:
+            threading.Thread(target=read, daemon=True).start()
+            file.close()
+
         done = threading.Event()
         file = RandomAccessFile.create(self.path, KEY, check_same_thread=False, page_size=PAGE)
         file.write_at(0, bytes(1 << 20))
         thread = threading.Thread(target=undo)
         thread.start()
         for turn in range(40):
-            child = os.fork()
-            if child == 0:
-                threading.Thread(target=read, daemon=True).start()
-                file.close()
-                os._exit(0)
-            self.assertEqual(os.waitpid(child, 0)[1], 0)
+            self.assertTrue(returns_in_a_fork(close))
         done.set()
         thread.join()
+        file.close()
+
+    def test_blocks_that_end_in_a_forked_process(self) -> None:
+        """Their exception goes on, whatever a thread of the other process was doing."""
+
+        def read() -> None:
+            while not done.is_set():
+                file.read_at(0, 1 << 20)
+
+        def end() -> None:
+            for block in blocks:
+                block.__exit__(SystemExit, SystemExit(), None)
+
+        done = threading.Event()
+        file = RandomAccessFile.create(self.path, KEY, check_same_thread=False, page_size=PAGE)
+        file.write_at(0, bytes(1 << 20))
+        batch = file.batch()
+        batch.__enter__()
+        blocks: list[Any] = [file.open_stream(), batch, file.open_stream(), file]
+        thread = threading.Thread(target=read)
+        thread.start()
+        for turn in range(20):
+            self.assertTrue(returns_in_a_fork(end))
+        done.set()
+        thread.join()
+        batch.__exit__(None, None, None)
         file.close()
 
     def test_several_threads_in_one_object(self) -> None:
@@ -511,6 +604,18 @@ class Files(unittest.TestCase):
             zipfile.ZipFile(file.open_stream(), "w").close()
             with zipfile.ZipFile(file.open_stream()) as archive:
                 self.assertEqual(archive.namelist(), [])
+
+    def test_a_stream_under_a_buffer(self) -> None:
+        """The `flush` of the buffer makes changes, and that of the stream commits them."""
+        with RandomAccessFile.create(self.path, KEY) as file, io.BufferedRandom(file.open_stream()) as buffer:
+            for flush, size in ((buffer.flush, 0), (buffer.raw.flush, 4)):
+                buffer.seek(0)
+                buffer.write(b"data")
+                buffer.flush()
+                self.assertEqual(file.size, 4)
+                flush()
+                file.discard()
+                self.assertEqual(file.size, size)
 
     def test_secrets_are_not_copied(self) -> None:
         with RandomAccessFile.create(self.path, KEY) as file:

@@ -35,6 +35,12 @@ class Samples(unittest.TestCase):
                     self.assertIn("assert", sample)
                     exec(sample, names)
 
+    def test_random_access_page(self) -> None:
+        """The page of random-access files shows a sample of the package's page."""
+        found = samples(HERE.parents[1] / "docs" / "RANDOM-ACCESS.md")
+        self.assertEqual(len(found), 1)
+        self.assertIn(found[0], samples(HERE.parent / "README.md"))
+
     def test_names(self) -> None:
         """The page names each class and function."""
         page = (HERE.parent / "README.md").read_text()

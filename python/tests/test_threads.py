@@ -2,6 +2,7 @@
 
 import concurrent.futures
 import contextlib
+import io
 import mmap
 import random
 import signal
@@ -10,9 +11,10 @@ import sys
 import threading
 import time
 import unittest
-from typing import Callable
+from typing import Any, Callable, Optional
 
-from hunkravy import Aegis128L, Aegis256, Aegis256Mac, InvalidTag
+from hunkravy import Aegis128L, Aegis256, Aegis256Mac, InvalidTag, SealedReader, SealedWriter
+from processes import returns_in_a_fork
 
 # Zeros that take no memory, and that the library works on for a quarter of a second or more.
 ZEROS = mmap.mmap(-1, 1 << 28, flags=mmap.MAP_PRIVATE | mmap.MAP_ANONYMOUS)
@@ -167,6 +169,47 @@ class Threads(unittest.TestCase):
             returned = time.monotonic()
         self.assertLess(returned, working.ended)
         self.assertEqual(digest, Aegis256Mac(bytes(32), b"the input").digest())
+
+    def test_a_fork_while_another_thread_has_a_turn(self) -> None:
+        """The forked process can close the object. Its other methods raise an error."""
+
+        class Slow(io.BytesIO):
+            def wait(self) -> None:
+                if goes.is_set():
+                    goes.clear()
+                    ends.wait()
+
+            def write(self, data: Any) -> int:
+                self.wait()
+                return super().write(data)
+
+            def read(self, size: Optional[int] = -1) -> bytes:
+                self.wait()
+                return super().read(size)
+
+        def use() -> None:
+            self.assertRaises(OSError, call)
+            used.__exit__(SystemExit, SystemExit(), None)
+            self.assertTrue(used.closed)
+
+        goes, ends, file = threading.Event(), threading.Event(), Slow()
+        with SealedWriter(file, bytes(32)) as writer:
+            writer.write(b"contents")
+        file.seek(0)
+        reader, writer = SealedReader(file, bytes(32)), SealedWriter(Slow(), bytes(32))
+        calls: list[tuple[Any, Callable[[], object]]] = [(reader, reader.read)]
+        calls += [(writer, lambda: writer.write(bytes(1 << 16)))]
+        for used, call in calls:
+            ends.clear()
+            goes.set()
+            thread = threading.Thread(target=call)
+            thread.start()
+            while goes.is_set():
+                time.sleep(0.001)
+            self.assertTrue(returns_in_a_fork(use))
+            ends.set()
+            thread.join()
+        writer.close()
 
     def test_a_signal_handler(self) -> None:
         """It runs between two calls, and may use the object that it interrupts."""
