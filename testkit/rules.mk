@@ -50,6 +50,7 @@ CORPUS_PROGRAM = crates/aegis_corpus/out/aegis_corpus
 check-corpus-rattle: $(CORPUS_PROGRAM) $(OUT)/line-program
 	python3 -B testkit/corpus/check_rattle.py $(CORPUS_PROGRAM) crates/aegis_vectors/out/aegis_vectors
 	if [ -s $(DISK)/images.in ]; then \
+		test -s $(DISK)/images.out && \
 		$(CORPUS_PROGRAM) < $(DISK)/images.in | grep '^ok' | cut -d' ' -f1,2 | cmp - $(DISK)/images.out && wc -l < $(DISK)/images.out; \
 	else \
 		echo 'left out: what a loss of power has left, since check-disk has not run'; \

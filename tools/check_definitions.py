@@ -17,7 +17,7 @@ PUBLIC = {
     "aegis_base/src": "chunks laws",
     "aegis_c/src": "journal message page record state steps",
     "aegis_engine/src": "cipher encryptor decryptor mac",
-    "aegis_files/src": "open range reading rekey seal",
+    "aegis_files/src": "laws open range reading rekey seal",
     "aegis_lines/src": "answer",
     "aegis_pages/src": "draws header laws layout opening page pages",
     "aegis_session/src": "session",

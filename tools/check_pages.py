@@ -257,9 +257,16 @@ def strange_versions():
             yield f"{path}: it does not have: {wanted}"
 
 
-found = list(dead_links())
-if sys.argv[1:] != ["links"]:
-    found += [*strange_samples(), *strange_words(), *strange_contracts(), *strange_numbers(), *strange_versions(), *unnamed_modules()]
-    found += [place for path in [*SOURCES, *PAGES] for place in long_lines(path)]
-print("\n".join(found), end="\n" if found else "")
-sys.exit(bool(found))
+def faults():
+    """Returns what is wrong with the pages."""
+    found = list(dead_links())
+    if sys.argv[1:] != ["links"]:
+        found += [*strange_samples(), *strange_words(), *strange_contracts(), *strange_numbers(), *strange_versions(), *unnamed_modules()]
+        found += [place for path in [*SOURCES, *PAGES] for place in long_lines(path)]
+    return found
+
+
+if __name__ == "__main__":
+    found = faults()
+    print("\n".join(found), end="\n" if found else "")
+    sys.exit(bool(found))

@@ -57,7 +57,8 @@ def check(program: str, found: list[Case], line: Callable[[Case], str], expected
     text = "\n".join(map(line, found))
     run = subprocess.run([program], input=text, stdout=subprocess.PIPE, text=True, check=False)
     answers = run.stdout.splitlines()
-    wrong = [case["case"] for case, answer in zip(found, answers) if not answer.startswith(expected(case))]
+    is_right = [re.fullmatch(f"{re.escape(expected(case))}([ :].*)?", answer) for case, answer in zip(found, answers)]
+    wrong = [case["case"] for case, right in zip(found, is_right) if not right]
     print(f"{program}: {len(answers)} of {len(found)} cases, {len(wrong)} differ", *wrong, sep="\n  ")
     return len(wrong) + abs(len(found) - len(answers))
 
