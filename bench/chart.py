@@ -36,7 +36,7 @@ def draw(page: str, picture: str) -> None:
         label = f" {speed:,} MB/s" if speed <= END else f" // {speed:,} MB/s"
         axes.bar_label(bars, labels=[label], color=WORDS, fontsize=10)
     axes.set_yticks(range(len(ROWS)), ROWS.values(), color=WORDS, fontsize=10)
-    axes.set_title("AEGIS without AES instructions: encrypting 1 MiB on one core, at x86-64-v3", color=WORDS, fontsize=11, loc="right")
+    axes.set_title("Encrypting 1 MiB on one core at x86-64-v3. Hunkravy uses no AES instructions", color=WORDS, fontsize=11, loc="right")
     axes.set_xlim(0, END * 1.2)
     axes.xaxis.set_visible(False)
     axes.invert_yaxis()

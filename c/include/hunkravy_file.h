@@ -33,7 +33,8 @@
  * number of the system, such as ENOSPC (positive). hunkravy_file_error_text has a message for each. After ENOMEM nothing
  * has changed. These codes are of files:
  *
- * - HUNKRAVY_NO_FILE: there is no header of this variant and key. A wrong key, a damaged file, or no such file.
+ * - HUNKRAVY_NO_FILE: there is no header of this variant and key. The key is wrong, or the file is empty, damaged or
+ *   another. If there is no file at the path, the error is ENOENT.
  * - HUNKRAVY_WRONG_JOURNAL: the journal is that of another file, or of another state of this one.
  * - HUNKRAVY_DAMAGED_PAGE: a page is not authentic. hunkravy_file_damaged_page has its number.
  * - HUNKRAVY_FILE_TOO_LONG: the contents would be longer than 2^60 bytes, or no more commits are possible.

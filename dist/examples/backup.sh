@@ -9,12 +9,12 @@ shift 2
 today=$(date +%F)
 part=$store/backup.part
 
-# One run at a time. What a run left that was killed is removed.
+# One run at a time. The files that a killed run has left are removed.
 exec 9> "$store/backup.lock"
 flock -n 9 || { echo "backup.sh: another run uses $store" >&2; exit 1; }
 rm -f "$part" "$store"/.backup.part.hunkravy-*
 
-# tar ends with status 1 if a file changed while it was read: that is a backup. With any other failure there is none.
+# tar ends with status 1 if a file changed while it was read: the backup is kept. After any other failure there is none.
 archive() {
     tar -C / -c -- "${@#/}" || [ $? = 1 ]
 }
