@@ -1,4 +1,4 @@
-"""Contents, whole and in parts. The tests of the Python package have each damaged file."""
+"""Contents, whole and in parts. test_corpus.py has damaged files."""
 
 import itertools
 import os

@@ -3,7 +3,7 @@
 use crate::support::*;
 use hunkravy::ERASED;
 use hunkravy::files::{SealedReader, read_key};
-use hunkravy::records::{Error, Opener};
+use hunkravy::records::{Error, OpenedInPlace, Opener};
 use std::cell::Cell;
 use std::fs;
 use std::io::{BufRead, Cursor, ErrorKind, Read, Seek, SeekFrom};
@@ -136,65 +136,49 @@ fn check_sought(damaged: &Damaged, contents: &[u8], place: usize, to: SeekFrom) 
     }
 }
 
-/// In memory the fault is the same, and stays, in a vector and in place.
+/// In memory the fault is the same, and stays.
 #[test]
 fn opened_in_memory() {
     for damaged in damaged().iter().filter(|damaged| damaged.bytes.len() >= 24) {
         let (prefix, stream) = damaged.bytes.split_first_chunk().unwrap();
         let (header, records) = stream.split_at(stream.len().min(4));
         let opener = || Opener::new(&damaged.key, prefix, CONTEXT, header);
-        if let Err(error) = opener() {
-            check(damaged, (Vec::new(), Some(error)));
-            continue;
+        match (opener(), opener()) {
+            (Ok(first), Ok(second)) => check(damaged, open_all(first, second, records)),
+            (error, _) => check(damaged, (Vec::new(), error.err())),
         }
-        check(damaged, open_all(opener().unwrap(), records));
-        check(damaged, open_all_in_place(opener().unwrap(), records));
     }
 }
 
-fn open_all(mut opener: Opener, mut rest: &[u8]) -> Found {
+/// Opens each record in place and in a vector. In place a damaged record is erased, and what is after it, or not a record, stays.
+fn open_all(mut in_place: Opener, mut in_vector: Opener, mut rest: &[u8]) -> Found {
     let mut contents = Vec::new();
-    while !opener.has_ended() {
-        match opener.open_next(rest) {
-            Ok(opened) => {
-                assert_eq!(opened.is_last, opener.has_ended());
-                contents.extend(opened.message);
-                rest = opened.rest;
-            }
-            Err(error) => {
-                assert_eq!(opener.open_next(rest), Err(error));
-                assert_eq!(opener.record_len(&[0; 5]), Err(error));
-                assert_eq!(opener.open_next_in_place(&mut []), Err(error));
-                assert!(!opener.has_ended());
-                assert_eq!(opener.finish(&[]), Err(error));
-                return (contents, Some(error));
-            }
-        }
-    }
-    assert_eq!(opener.open_next(rest), Err(Error::Trailing));
-    assert_eq!(opener.record_len(&[0; 5]), Err(Error::Trailing));
-    (contents, opener.finish(rest).err())
-}
-
-/// A damaged record is erased, and what is after it, or not a record, stays.
-fn open_all_in_place(mut opener: Opener, mut rest: &[u8]) -> Found {
-    let mut contents = Vec::new();
-    while !opener.has_ended() {
+    while !in_place.has_ended() {
         let mut copy = rest.to_vec();
         let length = |head: &[u8]| u32::from_le_bytes(head[1..5].try_into().unwrap()) as usize;
-        match opener.open_next_in_place(&mut copy) {
-            Ok(opened) => {
-                contents.extend_from_slice(opened.message);
-                rest = &rest[length(rest) + 37..];
+        match in_place.open_next_in_place(&mut copy) {
+            Ok(OpenedInPlace { message, is_last, .. }) => {
+                let opened = in_vector.open_next(rest).unwrap();
+                assert_eq!((&opened.message[..], opened.is_last), (&*message, is_last));
+                contents.extend(opened.message);
+                rest = opened.rest;
             }
             Err(error) => {
                 let is_erased = matches!(error, Error::Damaged(_));
                 let erased = if is_erased { length(rest) + 37 } else { 0 };
                 assert!(copy[..erased].iter().all(|byte| *byte == ERASED));
                 assert_eq!(copy[erased..], rest[erased..]);
+                for mut opener in [in_place, in_vector] {
+                    assert_eq!(opener.open_next(rest), Err(error));
+                    assert_eq!(opener.record_len(&[0; 5]), Err(error));
+                    assert!(!opener.has_ended());
+                    assert_eq!(opener.finish(&[]), Err(error));
+                }
                 return (contents, Some(error));
             }
         }
     }
-    (contents, opener.finish(rest).err())
+    assert_eq!(in_place.open_next(rest), Err(Error::Trailing));
+    assert_eq!(in_vector.record_len(&[0; 5]), Err(Error::Trailing));
+    (contents, in_place.finish(rest).err())
 }

@@ -35,31 +35,21 @@ pub struct Damaged {
 
 /// Returns the variants.
 pub fn damaged() -> Vec<Damaged> {
-    let whole = fs::read(data("records.sealed")).unwrap();
     let list = fs::read_to_string(data("damaged.csv")).unwrap();
-    let mut lines = list.lines();
-    assert_eq!(lines.next(), Some("name,operations,cause,verified"));
-    let variants: Vec<Damaged> = lines.map(|line| variant(&whole, line)).collect();
+    let (head, lines) = list.split_once('\n').unwrap();
+    assert_eq!(head, "name,key,file,cause,verified");
+    let variants: Vec<Damaged> = lines.lines().map(variant).collect();
     assert!(variants.len() > 100);
     variants
 }
 
-fn variant(whole: &[u8], line: &str) -> Damaged {
+fn variant(line: &str) -> Damaged {
     let fields: Vec<&str> = line.split(',').collect();
-    let [name, operations, cause, verified] = fields[..] else {
+    let [name, key, file, cause, verified] = fields[..] else {
         panic!("{line}");
     };
-    let mut damaged = Damaged {
-        name: name.to_owned(),
-        bytes: whole.to_vec(),
-        key: key(),
-        cause: cause_of(cause),
-        verified: verified.parse().unwrap(),
-    };
-    for operation in operations.split(';').filter(|text| !text.is_empty()) {
-        damaged.change(operation);
-    }
-    damaged
+    let (bytes, key) = (unhex(file), unhex(key).try_into().unwrap());
+    Damaged { name: name.to_owned(), bytes, key, cause: cause_of(cause), verified: verified.parse().unwrap() }
 }
 
 fn cause_of(text: &str) -> Option<Error> {
@@ -73,30 +63,6 @@ fn cause_of(text: &str) -> Option<Error> {
         ("damaged", number) => Error::Damaged(number.parse().unwrap()),
         _ => panic!("{text} is no cause"),
     })
-}
-
-impl Damaged {
-    fn change(&mut self, operation: &str) {
-        let words: Vec<&str> = operation.split(' ').collect();
-        let number = |word: &str| word.parse::<usize>().unwrap();
-        let bytes = &mut self.bytes;
-        match words[..] {
-            ["set", offset, digits] => {
-                let (offset, new) = (number(offset), unhex(digits));
-                bytes[offset..offset + new.len()].copy_from_slice(&new);
-            }
-            ["cut", length] => bytes.truncate(number(length)),
-            ["append", digits] => bytes.extend(unhex(digits)),
-            ["remove", offset, length] => {
-                bytes.drain(number(offset)..number(offset) + number(length));
-            }
-            ["insert", offset, digits] => {
-                bytes.splice(number(offset)..number(offset), unhex(digits));
-            }
-            ["wrongkey"] => self.key = [0; 32],
-            _ => panic!("{operation} is no operation"),
-        }
-    }
 }
 
 fn unhex(digits: &str) -> Vec<u8> {
