@@ -191,26 +191,6 @@ class Errors(unittest.TestCase):
         for wrong in (b"abc", [1, 2], "3", 2.0, None):
             self.assertRaises(TypeError, CIPHER.keystream, NONCE, wrong)
 
-    def test_each_changed_bit(self) -> None:
-        for tag_length in (16, 32):
-            cipher = Aegis256(KEY, tag_length)
-            sealed = cipher.encrypt(NONCE, b"a message", b"header")
-            for bit in range(8 * len(sealed)):
-                forged = bytearray(sealed)
-                forged[bit // 8] ^= 1 << bit % 8
-                self.assertRaises(hunkravy.InvalidTag, cipher.decrypt, NONCE, forged, b"header")
-                decryptor = cipher.decryptor(NONCE, b"header")
-                decryptor.update(forged[:9])
-                self.assertRaises(hunkravy.InvalidTag, decryptor.finalize, forged[9:])
-
-    def test_each_changed_bit_of_a_mac(self) -> None:
-        for tag_length in (16, 32):
-            mac = Aegis256Mac(KEY, b"the input", tag_length=tag_length)
-            for bit in range(8 * tag_length):
-                forged = bytearray(mac.digest())
-                forged[bit // 8] ^= 1 << bit % 8
-                self.assertRaises(hunkravy.InvalidTag, mac.verify, forged)
-
     def test_after_the_end(self) -> None:
         encryptor, decryptor = CIPHER.encryptor(NONCE), CIPHER.decryptor(NONCE)
         encryptor.finalize()

@@ -2,7 +2,7 @@
 
 use crate::support::*;
 use hunkravy::raf::*;
-use std::cell::{Cell, RefCell};
+use std::cell::Cell;
 use std::error::Error as _;
 use std::io::{self, Write};
 use std::panic::{AssertUnwindSafe, catch_unwind};
@@ -190,33 +190,6 @@ fn the_calls_of_a_creation_and_an_opening() {
     file.verify(&commitment).unwrap();
 }
 
-/// An opening that completes a commit replaces the journal, makes the writes again, and empties it. Before it reads anything the
-/// system forgets what it keeps of both in memory.
-#[test]
-fn the_calls_of_a_recovery() {
-    let disks = cut_short(&Disks::with(b"").bytes(), &[1; 600], 0, 1 + JOURNAL_CALLS);
-    disks.log().calls.clear();
-    let seen = RefCell::new(Vec::new());
-    let sees = |part| {
-        let seen = &seen;
-        move |at| {
-            seen.borrow_mut().push((part, at));
-            Ok(())
-        }
-    };
-    let journal = Before(disks.journal.clone(), sees(Part::Journal));
-    let length = disks.bytes().1.len();
-    let opened = disks.builder().journal(journal).open(Before(disks.file.clone(), sees(Part::File)), &KEY);
-    assert_eq!(text_of(&mut opened.unwrap()), [1; 600]);
-    let expected = format!(
-        "File sync, Journal replace {length}, File write 0, File write 4096, File write 0, File sync, \
-         Journal resize 0, Journal sync"
-    );
-    assert_eq!(calls(&disks), expected);
-    let first = [At::Lock, At::Forget].map(|at| [(Part::File, at), (Part::Journal, at)]);
-    assert_eq!(seen.borrow()[..4], first.concat());
-}
-
 /// A file whose lock, or whose journal's, is refused is not changed or synced, also if a commit is to be completed.
 #[test]
 fn locks_that_are_refused() {
@@ -236,26 +209,6 @@ fn locks_that_are_refused() {
     ];
     assert_eq!((refused, disks.calls()), (["Locked"; 4].map(String::from), 0));
     assert_eq!(disks.text(), [1; 600]);
-}
-
-/// Each commit that makes the file longer sets its size. Then it writes the front of the journal and syncs it, the rest of it
-/// and syncs it, then the file, neighbouring pages in one call, and syncs it, and then empties the journal and syncs it.
-#[test]
-fn the_calls_of_a_commit() {
-    let disks = Disks::new();
-    let mut file = disks.create();
-    let (first, _) = disks.bytes();
-    file.write(&[1; 600], 0).unwrap();
-    disks.log().calls.clear();
-    file.commit().unwrap();
-    let made = disks.log().calls.clone();
-    assert_eq!(
-        calls(&disks),
-        "File resize 5056, Journal write 0, Journal sync, Journal write 512, Journal sync, \
-         File write 0, File write 4096, File write 0, File sync, Journal resize 0, Journal sync"
-    );
-    assert!(matches!(&made[1].1, Call::Write(0, front) if front.len() == 512));
-    assert_eq!(made[1 + JOURNAL_CALLS].1, Call::Write(0, first));
 }
 
 /// Without a journal a commit writes the file alone, which is read again.
