@@ -126,8 +126,8 @@ class SealedWriter(Sealed):
     If `close` raises an exception, the file may be complete or not. `file` is not closed. It has to block: if it takes no
     byte, `BlockingIOError` is raised. In a forked process the writer raises `OSError`, and writes nothing.
 
-    Bytes are written in pieces of 65,536. `close` writes the last piece, and `flush` does not. In a `with` block
-    `close` takes effect at its end, so an `io.TextIOWrapper` inside it may close the writer.
+    Bytes are written in pieces of 65,536. `close` writes the last piece, and `flush` does not. In a `with` block the
+    end of the block completes the file, also if an `io.TextIOWrapper` inside it has closed the writer.
     """
 
     _can_write = True
@@ -159,20 +159,22 @@ class SealedWriter(Sealed):
     def write(self, data: _ReadableBuffer) -> int:
         """Writes all of the data, and returns their length. After an exception the file cannot be completed.
 
-        Exception: one of a signal handler that came before any of the data were taken in.
+        Exceptions: `TypeError`, and one of a signal handler that came before any of the data were taken in.
         """
+        count = -1
         try:
             with self._turn():
                 self._check_open()
                 self._check_may_finish()
-                self._may_finish = False
                 with memoryview(data) as view, bytes_of(view) as contents:
+                    self._may_finish = False
                     self._take_in(contents)
                     count = len(contents)
                 self._may_finish = True
         except BaseException:
-            # A signal may come at the end of the turn, and its caller would write the data again.
-            self._may_finish = False
+            if count >= 0:
+                # A signal has come at the end of the turn, and its caller would write the data again.
+                self._may_finish = False
             raise
         return count
 

@@ -38,6 +38,9 @@ class Turns:
 
     def _turn(self) -> ContextManager[Any]:
         """Returns the lock. There is none if `__init__` has raised, and this thread may hold it in a method beneath."""
+        if waited_for is None:
+            # The interpreter clears modules before it drops the last objects.
+            raise RuntimeError("the interpreter ends")
         locks = vars(self).get("_locks")
         if locks is None:
             return contextlib.nullcontext()

@@ -370,6 +370,8 @@ class Writing(unittest.TestCase):
         with SealedWriter(file, KEY) as writer:
             self.assertEqual(writer.write(array.array("I")), 0)
             self.assertEqual(writer.write(memoryview(b"abc")[3:]), 0)
+            for wrong in ("text", memoryview(b"abc")[::2]):
+                self.assertRaises(TypeError, writer.write, wrong)
             self.assertEqual(writer.write(array.array("I", [1])), 4)
         with SealedReader(io.BytesIO(file.getvalue()), KEY) as reader:
             self.assertEqual(reader.readinto(array.array("I")), 0)

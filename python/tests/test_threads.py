@@ -284,13 +284,13 @@ class Last:
 for _ in range(2):
     threading.Thread(target=work, daemon=True).start()
 time.sleep(0.03)
-# Dropped as soon as the interpreter ends.
-sys.modules["kept"] = Last()
+# Dropped as soon as the interpreter ends, or when it has cleared most modules.
+{} = Last()
 """
 
-    def ends(self, objects: str) -> str:
+    def ends(self, objects: str, place: str = 'sys.modules["kept"]') -> str:
         """What the program with these objects writes until it ends."""
-        command = [sys.executable, "-c", self.program.format(objects)]
+        command = [sys.executable, "-c", self.program.format(objects, place)]
         return subprocess.run(command, stdout=subprocess.PIPE, check=True, text=True, timeout=200).stdout
 
     def test_native_objects(self) -> None:
@@ -312,8 +312,9 @@ with SealedWriter(file, bytes(32)) as writer:
     writer.write(bytes(1 << 20))
 reader = SealedReader(Slow(file.getvalue()), bytes(32)); work, call = (lambda: reader.read(1),) * 2""",
         ):
-            with self.subTest(objects):
-                self.assertEqual(self.ends(objects), "raised")
+            for place in ('sys.modules["kept"]', "sys.last_object"):
+                with self.subTest(objects, place=place):
+                    self.assertEqual(self.ends(objects, place), "raised")
 
 
 if __name__ == "__main__":
