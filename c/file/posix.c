@@ -3,6 +3,7 @@
 #define _GNU_SOURCE
 #endif
 #include "engine.h"
+#include "journal.h"
 
 #include <errno.h>
 #include <fcntl.h>
@@ -460,9 +461,8 @@ static int system_forget(void *context, enum hunkravy_part part)
     return 0;
 }
 
-static int system_random(void *context, uint8_t *bytes, size_t length)
+int hunkravy_fill_random(uint8_t *bytes, size_t length)
 {
-    (void)context;
     for (size_t done = 0; done < length;) {
         long count = syscall(SYS_getrandom, bytes + done, length - done, 0);
         if (count < 0 && errno != EINTR) {
@@ -471,6 +471,12 @@ static int system_random(void *context, uint8_t *bytes, size_t length)
         done += count > 0 ? (size_t)count : 0;
     }
     return 0;
+}
+
+static int system_random(void *context, uint8_t *bytes, size_t length)
+{
+    (void)context;
+    return hunkravy_fill_random(bytes, length);
 }
 
 static void system_close(void *context)

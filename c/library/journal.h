@@ -1,7 +1,7 @@
 /*
- * The journal of a commit, and the order of the steps of a commit and of a recovery. These functions are for the engines of
- * this repository alone: c/file, and `raf` of the Rust package, which links them by name. They are no part of the interface
- * of the library, and may change with any version. docs/FORMATS.md defines the bytes.
+ * The journal of a commit, the order of the steps of a commit and of a recovery, and random bytes. These functions are for
+ * this repository alone: c/file, and the Rust package, which links them by name. They are no part of the interface of the
+ * library, and may change with any version. docs/FORMATS.md defines the bytes.
  *
  * A journal has a start, then each write with its head in front, and then a MAC. After an error nothing is written. The
  * rules of hunkravy.h on pointers apply here too.
@@ -59,5 +59,8 @@ HUNKRAVY_MUST_USE int hunkravy_journal_next(const uint8_t *writes, size_t writes
  */
 HUNKRAVY_MUST_USE uint32_t hunkravy_commit_step(uint64_t number, uint64_t writes, uint64_t *write) HUNKRAVY_NONNULL(3);
 HUNKRAVY_MUST_USE uint32_t hunkravy_recovery_step(uint64_t number, uint64_t writes, uint64_t *write) HUNKRAVY_NONNULL(3);
+
+/* Fills a key or a nonce with random bytes of the system, and waits until it has seeded its source. Returns 0 or `errno`. */
+HUNKRAVY_MUST_USE int hunkravy_fill_random(uint8_t *bytes, size_t length) HUNKRAVY_NONNULL(1);
 
 #endif

@@ -1,18 +1,21 @@
 /*
  * Random-access files of the system: what other programs do to one while it is created, a sync that fails, signals, and the
- * calls of a creation, of a commit and of a recovery, in order. The program is linked with --wrap for the calls below; otherwise it does
- * nothing. What a loss of power leaves is tested in testkit/disk.
+ * calls of a creation, of a commit and of a recovery, in order; and random bytes. The program is linked with --wrap for the
+ * calls below; otherwise it does nothing. What a loss of power leaves is tested in testkit/disk.
  */
 #ifndef _GNU_SOURCE
 #define _GNU_SOURCE
 #endif
+#include "../library/journal.h"
 #include "check.h"
 #include "hunkravy_file.h"
 
 #include <errno.h>
 #include <fcntl.h>
+#include <stdarg.h>
 #include <sys/file.h>
 #include <sys/stat.h>
+#include <sys/syscall.h>
 #include <unistd.h>
 
 enum { ALL = 1 << 30 };
@@ -191,6 +194,44 @@ static void check_empty_writes(void)
     HOLDS(hunkravy_file_commit(opened) == 0 && hunkravy_file_close(opened) == 0 && unlink(path) == 0);
 }
 
+/* Of the system's calls getrandom gives at most 7 bytes, and every other time it is interrupted. */
+long __real_syscall(long number, ...) __attribute__((weak));
+long __wrap_syscall(long number, ...);
+long __wrap_syscall(long number, ...)
+{
+    static int draws;
+    long given[4];
+    va_list rest;
+    va_start(rest, number);
+    for (size_t i = 0; i < COUNT(given); i++) {
+        given[i] = va_arg(rest, long);
+    }
+    va_end(rest);
+    if (number == SYS_getrandom) {
+        /* With no flag it waits until the system has seeded its source. */
+        HOLDS((int)given[2] == 0);
+        given[1] = given[1] < 7 ? given[1] : 7;
+        if (draws++ % 2 == 0) {
+            errno = EINTR;
+            return -1;
+        }
+    }
+    return __real_syscall(number, given[0], given[1], given[2], given[3]);
+}
+
+/* Each byte is drawn: the chance that one is 0 each time is below 2^-100. */
+static void check_random(void)
+{
+    uint8_t drawn[100], seen[sizeof drawn] = {0};
+    for (int turn = 0; turn < 16; turn++) {
+        HOLDS(hunkravy_fill_random(drawn, sizeof drawn) == 0);
+        for (size_t i = 0; i < sizeof drawn; i++) {
+            seen[i] |= drawn[i];
+        }
+    }
+    HOLDS(memchr(seen, 0, sizeof seen) == NULL);
+}
+
 int main(void)
 {
     char folder[] = "/tmp/check_posix-XXXXXX";
@@ -203,6 +244,7 @@ int main(void)
     check_order();
     check_signals();
     check_empty_writes();
+    check_random();
     printf("random-access files of the system: %lu checks\n", checks);
     return rmdir(folder) == 0 ? EXIT_SUCCESS : EXIT_FAILURE;
 }

@@ -10,7 +10,7 @@ pub const ERASED: u8 = 0xaa;
 
 /// An error of the library: its code. These are the codes that callers tell apart.
 #[derive(Clone, Copy, Debug, PartialEq, Eq)]
-pub struct Refusal(i32);
+pub struct Refusal(pub i32);
 
 impl Refusal {
     pub const INVALID_TAG: Self = Self(-1);
@@ -113,6 +113,7 @@ exports! {
         before: u64);
     record_len(st: &Records<'_>, head: &[u8; RECORD_HEAD_BYTES], length: &mut usize);
     record_open(st: &mut Records<'_>, [record: Out], message_len: &mut usize, is_last: &mut i32);
+    fill_random([bytes: Out]);
 }
 
 unsafe extern "C" {

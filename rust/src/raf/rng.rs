@@ -23,8 +23,7 @@ pub(super) fn checked_nonce<A: Algorithm>(nonce: A::Nonce) -> Result<A::Nonce> {
     Ok(nonce)
 }
 
-/// The system's source of random bytes: `/dev/urandom`, once it was seeded. It is opened anew each time, since a fault of the
-/// program might give the descriptor to another file.
+/// The system's source of random bytes: [`fill_random`](crate::fill_random).
 #[cfg(feature = "raf")]
 #[derive(Debug, Default)]
 pub struct OsRng;

@@ -74,11 +74,9 @@ fn each_way_to_create_a_file() {
     assert!(is_written(over().create(FileIo::new(io.unwrap()), &KEY)));
 }
 
-/// The system's bytes differ from draw to draw, at each place. The chance of fewer values is below 2^-100. Their source keeps no
-/// descriptor, which a fault of the program might give to another file.
+/// The system's bytes differ from draw to draw, at each place. The chance of fewer values is below 2^-100.
 #[test]
 fn the_bytes_of_the_system() {
-    assert_eq!(size_of::<OsRng>(), 0);
     let mut draws = [[0; 32]; 64];
     for drawn in &mut draws {
         OsRng.fill(drawn).unwrap();
