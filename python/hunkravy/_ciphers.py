@@ -182,7 +182,7 @@ class Decryptor(Chunks):
         return self._state.decrypt_final(tag)
 
 
-class Aegis128L(variants.Aegis128L, Cipher):
+class Aegis128L(Cipher, variant=0):
     """AEGIS-128L: keys and nonces of 16 bytes.
 
     A published test vector:
@@ -196,31 +196,31 @@ class Aegis128L(variants.Aegis128L, Cipher):
     __slots__ = ()
 
 
-class Aegis128X2(variants.Aegis128X2, Cipher):
+class Aegis128X2(Cipher, variant=1):
     """AEGIS-128X2: two lanes of AEGIS-128L."""
 
     __slots__ = ()
 
 
-class Aegis128X4(variants.Aegis128X4, Cipher):
+class Aegis128X4(Cipher, variant=2):
     """AEGIS-128X4: four lanes of AEGIS-128L."""
 
     __slots__ = ()
 
 
-class Aegis256(variants.Aegis256, Cipher):
+class Aegis256(Cipher, variant=3):
     """AEGIS-256: keys and nonces of 32 bytes."""
 
     __slots__ = ()
 
 
-class Aegis256X2(variants.Aegis256X2, Cipher):
+class Aegis256X2(Cipher, variant=4):
     """AEGIS-256X2: two lanes of AEGIS-256."""
 
     __slots__ = ()
 
 
-class Aegis256X4(variants.Aegis256X4, Cipher):
+class Aegis256X4(Cipher, variant=5):
     """AEGIS-256X4: four lanes of AEGIS-256."""
 
     __slots__ = ()

@@ -91,37 +91,37 @@ class Mac(variants.Variant, variants.Secret):
         return other
 
 
-class Aegis128LMac(variants.Aegis128L, Mac):
+class Aegis128LMac(Mac, variant=0):
     """The MAC of AEGIS-128L: keys and nonces of 16 bytes."""
 
     __slots__ = ()
 
 
-class Aegis128X2Mac(variants.Aegis128X2, Mac):
+class Aegis128X2Mac(Mac, variant=1):
     """The MAC of AEGIS-128X2: keys and nonces of 16 bytes."""
 
     __slots__ = ()
 
 
-class Aegis128X4Mac(variants.Aegis128X4, Mac):
+class Aegis128X4Mac(Mac, variant=2):
     """The MAC of AEGIS-128X4: keys and nonces of 16 bytes."""
 
     __slots__ = ()
 
 
-class Aegis256Mac(variants.Aegis256, Mac):
+class Aegis256Mac(Mac, variant=3):
     """The MAC of AEGIS-256: keys and nonces of 32 bytes."""
 
     __slots__ = ()
 
 
-class Aegis256X2Mac(variants.Aegis256X2, Mac):
+class Aegis256X2Mac(Mac, variant=4):
     """The MAC of AEGIS-256X2: keys and nonces of 32 bytes."""
 
     __slots__ = ()
 
 
-class Aegis256X4Mac(variants.Aegis256X4, Mac):
+class Aegis256X4Mac(Mac, variant=5):
     """The MAC of AEGIS-256X4: keys and nonces of 32 bytes."""
 
     __slots__ = ()

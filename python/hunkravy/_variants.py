@@ -2,7 +2,9 @@
 
 from __future__ import annotations
 
-from typing import ClassVar, NoReturn, SupportsIndex
+from typing import ClassVar, NoReturn, Optional, SupportsIndex
+
+NAMES = ("aegis-128l", "aegis-128x2", "aegis-128x4", "aegis-256", "aegis-256x2", "aegis-256x4")
 
 
 class Variant:
@@ -13,7 +15,13 @@ class Variant:
     NONCE_BYTES: ClassVar[int]
     name: ClassVar[str]
     # That of no variant, for which the native module raises `TypeError`.
-    _VARIANT: ClassVar[int] = 6
+    _VARIANT: ClassVar[int] = len(NAMES)
+
+    def __init_subclass__(cls, variant: Optional[int] = None, **others: object) -> None:
+        super().__init_subclass__(**others)
+        if variant is not None:
+            cls._VARIANT, cls.name = variant, NAMES[variant]
+            cls.KEY_BYTES = cls.NONCE_BYTES = 16 if variant < 3 else 32
 
 
 class Secret:
@@ -26,53 +34,3 @@ class Secret:
 
     def __getstate__(self) -> NoReturn:
         self.__reduce_ex__(0)
-
-
-class Of128(Variant):
-    """Keys and nonces of 16 bytes."""
-
-    __slots__ = ()
-    KEY_BYTES = NONCE_BYTES = 16
-
-
-class Of256(Variant):
-    """Keys and nonces of 32 bytes."""
-
-    __slots__ = ()
-    KEY_BYTES = NONCE_BYTES = 32
-
-
-class Aegis128L(Of128):
-    __slots__ = ()
-    name = "aegis-128l"
-    _VARIANT = 0
-
-
-class Aegis128X2(Of128):
-    __slots__ = ()
-    name = "aegis-128x2"
-    _VARIANT = 1
-
-
-class Aegis128X4(Of128):
-    __slots__ = ()
-    name = "aegis-128x4"
-    _VARIANT = 2
-
-
-class Aegis256(Of256):
-    __slots__ = ()
-    name = "aegis-256"
-    _VARIANT = 3
-
-
-class Aegis256X2(Of256):
-    __slots__ = ()
-    name = "aegis-256x2"
-    _VARIANT = 4
-
-
-class Aegis256X4(Of256):
-    __slots__ = ()
-    name = "aegis-256x4"
-    _VARIANT = 5
