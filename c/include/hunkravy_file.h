@@ -76,10 +76,12 @@ HUNKRAVY_MUST_USE int hunkravy_file_open(hunkravy_file **file, const char *path,
     size_t klen) HUNKRAVY_NONNULL(1, 2);
 
 /*
- * Commits the changes, and frees the file in any case. Commits nothing and returns the code of the reason if a batch is
- * open, if the file is broken, or if a change or a commit has failed and no commit has succeeded since: then the pending
- * changes may be a part of what was meant. hunkravy_file_discard ends that too. In a process that did not open the file
- * it only frees it. A null pointer is no file: HUNKRAVY_OK.
+ * Commits the changes, and frees the file whatever happens. A process that did not open the file only frees it. A null
+ * pointer is no file, and the result is HUNKRAVY_OK.
+ *
+ * Nothing is committed, and the result is the reason's code, if a batch is open, if the file is broken, or if a change or a
+ * commit has failed and none has been committed since: the pending changes may be a part of what was meant. After
+ * hunkravy_file_discard a failed change no longer counts.
  */
 HUNKRAVY_MUST_USE int hunkravy_file_close(hunkravy_file *file);
 
