@@ -1,12 +1,12 @@
-//! The calls of the system that change something, which files at paths make in their creation, in commits and in recoveries. Only
-//! their order shows what a loss of power leaves.
+//! The calls of the system that change something, which files at paths make in their creation, in commits and in recoveries, in
+//! their order. `testkit/disk` lets each of them fail.
 
 #[allow(dead_code)]
 #[path = "raf/support.rs"]
 mod support;
 
-use hunkravy::raf::Raf;
-use std::cell::{Cell, RefCell};
+use hunkravy::raf::{Aegis256, Raf};
+use std::cell::RefCell;
 use std::ffi::{CStr, OsStr, c_char, c_int, c_void};
 use std::fs;
 use std::mem::transmute;
@@ -16,47 +16,35 @@ use support::*;
 
 thread_local! {
     static CALLS: RefCell<Vec<String>> = const { RefCell::new(Vec::new()) };
-    /// How many calls are made before one fails.
-    static LEFT: Cell<usize> = const { Cell::new(usize::MAX) };
 }
 
 // SAFETY: it is declared as in `dlfcn.h`.
 unsafe extern "C" {
     fn dlsym(handle: isize, name: *const c_char) -> *const c_void;
-    safe fn __errno_location() -> &'static mut c_int;
 }
 
-/// Logs a call. Returns whether it fails.
-fn log(call: &str, path: &Path) -> bool {
+fn log(call: &str, path: &Path) {
     let name = path.file_name().unwrap_or_default().to_string_lossy();
     let shown = format!("{call} {}", if name.starts_with("hunkravy-") { "folder" } else { &name });
     CALLS.with_borrow_mut(|calls| calls.push(shown));
-    LEFT.set(LEFT.get().wrapping_sub(1));
-    let fails = LEFT.get() == usize::MAX;
-    if fails {
-        *__errno_location() = EIO;
-    }
-    fails
 }
-
-const EIO: c_int = 5;
 
 /// Anything by which a call names a file.
 trait Named {
-    fn log(self, call: &str) -> bool;
+    fn log(self, call: &str);
 }
 
 impl Named for c_int {
-    fn log(self, call: &str) -> bool {
-        log(call, &fs::read_link(format!("/proc/self/fd/{self}")).unwrap())
+    fn log(self, call: &str) {
+        log(call, &fs::read_link(format!("/proc/self/fd/{self}")).unwrap());
     }
 }
 
 impl Named for *const c_char {
-    fn log(self, call: &str) -> bool {
+    fn log(self, call: &str) {
         // SAFETY: it is a path that is passed to the system.
         let path = unsafe { CStr::from_ptr(self) };
-        log(call, Path::new(OsStr::from_bytes(path.to_bytes())))
+        log(call, Path::new(OsStr::from_bytes(path.to_bytes())));
     }
 }
 
@@ -67,9 +55,7 @@ macro_rules! logged {
         #[unsafe(no_mangle)]
         unsafe extern "C" fn $name($file: $of $(, $argument: $type)*) -> $result {
             const NEXT: isize = -1;
-            if $file.log($shown) {
-                return -1;
-            }
+            $file.log($shown);
             // SAFETY: as above.
             unsafe {
                 let found = dlsym(NEXT, concat!(stringify!($name), "\0").as_ptr().cast());
@@ -127,68 +113,10 @@ fn the_calls_of_the_system() {
     let empty = "sync file, resize file.journal, sync file.journal, remove file.journal";
     assert_eq!(calls(), empty);
     fs::write(folder.journal(), &journal).unwrap();
-    let opened = Raf::<hunkravy::raf::Aegis256>::open_file(folder.file(), &KEY);
+    let opened = Raf::<Aegis256>::open_file(folder.file(), &KEY);
     let whole = "sync file, forget file, sync file.journal, forget file.journal, sync file, remove file.jrncopy, \
          write file.jrncopy, sync file.jrncopy, rename file.jrncopy, sync folder, write file, write file, write file, \
          sync file, resize file.journal, sync file.journal, remove file.journal";
     assert_eq!(text_of(&mut opened.unwrap())[..6], *b"after!");
     assert_eq!(calls(), whole);
-}
-
-/// Lets each call of a function fail in turn. `check` is told what failed, and what the function returned.
-fn each_failure<T>(done: impl Fn() -> T, check: impl Fn(&str, T)) {
-    for left in 0.. {
-        calls();
-        LEFT.set(left);
-        let result = done();
-        let is_over = LEFT.replace(usize::MAX) < usize::MAX / 2;
-        let made = CALLS.take();
-        match made.get(left) {
-            Some(failed) if !is_over => check(failed, result),
-            _ => return assert!(left > 2, "{made:?}"),
-        }
-    }
-}
-
-/// A call of the system that fails is an error of the function, except those that remove what is of no use any more.
-#[test]
-fn each_call_of_the_system_that_fails() {
-    let is_error = |failed: &str, result: String| {
-        let may_fail = failed.starts_with("remove") || failed.starts_with("forget");
-        assert!(may_fail || result != "Ok", "{failed}: {result}");
-    };
-    let create = || {
-        let folder = Folder::new();
-        let created = outcome(folder.create());
-        assert!(created == "Ok" || folder.names().is_empty());
-        created
-    };
-    each_failure(create, is_error);
-    let folder = Folder::with(b"before");
-    let bytes = fs::read(folder.file()).unwrap();
-    let commit = || {
-        fs::write(folder.file(), &bytes).unwrap();
-        let mut file = folder.open()?;
-        file.write(&[1; 6000], 0)?;
-        file.commit()
-    };
-    each_failure(commit, |failed, result| {
-        let text = folder.text();
-        assert!(text == [1; 6000] || (text == b"before" && result.is_err()));
-        is_error(failed, outcome(result));
-    });
-    fs::write(folder.file(), &bytes).unwrap();
-    let journal = cut_short(&(bytes.clone(), Vec::new()), b"after!", 0, JOURNAL_CALLS).bytes().1;
-    for (journal, text) in [(journal, b"after!"), (Vec::new(), b"before")] {
-        let recover = || {
-            fs::write(folder.file(), &bytes).unwrap();
-            fs::write(folder.journal(), &journal).unwrap();
-            outcome(folder.open())
-        };
-        each_failure(recover, |failed, result| {
-            assert_eq!(folder.text(), text, "{failed}");
-            assert_eq!(folder.names(), ["file"]);
-            is_error(failed, result);
-        });
-    }
 }

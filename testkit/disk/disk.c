@@ -51,7 +51,7 @@ void disk_begin(struct disk *disk, const char *folder, int is_deaf, int is_lying
     strcpy(disk->folder, folder);
     disk->is_deaf = is_deaf;
     disk->is_lying = is_lying;
-    disk_plan(disk, INT_MAX, INT_MAX, 0, 0);
+    disk_plan(disk, INT_MAX, INT_MAX, INT_MAX, 0, 0);
 }
 
 void disk_copy(struct disk *to, const struct disk *from)
@@ -69,19 +69,21 @@ void disk_copy(struct disk *to, const struct disk *from)
     }
 }
 
-void disk_plan(struct disk *disk, int first_failure, int last_failure, uint64_t failing_syncs, int stops)
+void disk_plan(
+    struct disk *disk, int first_failure, int last_failure, int stop, uint64_t failing_syncs, int stops_at_sync)
 {
     disk->calls = disk->syncs = 0;
-    disk->stops = stops;
     disk->first_failure = first_failure;
     disk->last_failure = last_failure;
+    disk->stop = stop;
+    disk->stops_at_sync = stops_at_sync;
     disk->failing_syncs = failing_syncs;
 }
 
 int disk_fails(struct disk *disk)
 {
     int call = disk->calls++;
-    return disk->first_failure <= call && call < disk->last_failure;
+    return (disk->first_failure <= call && call < disk->last_failure) || disk->stop <= call;
 }
 
 /* ---- Names */
@@ -173,9 +175,8 @@ void disk_rename(struct disk *disk, const char *from, const char *to, struct nod
 static int sync_fails(struct disk *disk)
 {
     int fails = (int)(disk->failing_syncs >> disk->syncs++ % 64 & 1);
-    if (fails && disk->stops) {
-        disk->first_failure = disk->calls;
-        disk->last_failure = INT_MAX;
+    if (fails && disk->stops_at_sync) {
+        disk->stop = disk->calls;
     }
     return fails;
 }
@@ -375,5 +376,5 @@ void disk_crash(struct disk *disk, uint64_t seed)
         memcpy(node->now, node->stored, node->stored_length);
         node->length = node->stored_length;
     }
-    disk_plan(disk, INT_MAX, INT_MAX, 0, 0);
+    disk_plan(disk, INT_MAX, INT_MAX, INT_MAX, 0, 0);
 }

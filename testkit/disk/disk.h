@@ -57,7 +57,7 @@ struct disk {
     char folder[256];
     uint64_t device, folder_number;
     /* The plan: which of the calls that change something fail, counted from 0, and the bits of the syncs that fail. */
-    int calls, first_failure, last_failure, syncs, stops;
+    int calls, first_failure, last_failure, stop, syncs, stops_at_sync;
     uint64_t failing_syncs, random;
     int is_deaf, is_lying;
     int renaming_count;
@@ -74,8 +74,9 @@ struct disk *disk_map(const char *path);
 /* Makes the disk that of an empty folder. */
 void disk_begin(struct disk *disk, const char *folder, int is_deaf, int is_lying);
 void disk_copy(struct disk *to, const struct disk *from);
-/* If `stops` is set, all calls after the first sync that fails do too. */
-void disk_plan(struct disk *disk, int first_failure, int last_failure, uint64_t failing_syncs, int stops);
+/* From the call `stop` on all fail, and if `stops_at_sync` is set, those after the first sync that does. */
+void disk_plan(
+    struct disk *disk, int first_failure, int last_failure, int stop, uint64_t failing_syncs, int stops_at_sync);
 
 /* Counts a call. Returns whether it fails. */
 int disk_fails(struct disk *disk);
