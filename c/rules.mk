@@ -140,7 +140,7 @@ C_PROGRAMS = $(C_EXAMPLES) $(C_TESTS)
 # The tests of files let allocations and calls of the system fail.
 WRAPS = $$(case $$program in \
 	check_file) printf ' -Wl,--wrap=%s' malloc calloc ;; \
-	check_posix) printf ' -Wl,--wrap=%s' flock fsync pwrite ftruncate fallocate posix_fadvise rename syscall ;; esac)
+	check_posix) printf ' -Wl,--wrap=%s' flock fsync pwrite ftruncate fallocate posix_fadvise rename syscall realpath ;; esac)
 
 # The archive has the calls of the headers and of journal.h, and no other name that is not local.
 check-c-%: $(OUT)/%/libhunkravy.a

@@ -176,13 +176,19 @@ static uint64_t find_writes(const hunkravy_file *file, struct commit *commit, st
     return count == 0 ? 0 : writes[count].place + writes[count].length;
 }
 
+/* Other threads may ask whether it is broken. */
+static void break_file(hunkravy_file *file)
+{
+    __atomic_store_n(&file->is_broken, 1, __ATOMIC_RELAXED);
+}
+
 /* Decrypts the pages of a commit that is left out. */
 static void unseal(hunkravy_file *file, const struct commit *commit)
 {
     for (uint64_t i = 0; i < commit->sealed; i++) {
         if (hunkravy_page_open(file->variant, commit->pages[i]->bytes, file->page_bytes, file->id,
                 commit->pages[i]->number, file->key, file->key_bytes) != HUNKRAVY_OK) {
-            file->is_broken = 1;
+            break_file(file);
         }
     }
 }
@@ -250,8 +256,10 @@ static int take_commit_steps(hunkravy_file *file, struct work *work)
 {
     int code = take_steps(work, hunkravy_commit_step);
     if (code != HUNKRAVY_OK) {
-        file->is_broken = work->has_written || do_step(work, HUNKRAVY_STEP_EMPTY_JOURNAL, 0) != HUNKRAVY_OK ||
-            do_step(work, HUNKRAVY_STEP_SYNC_JOURNAL, 0) != HUNKRAVY_OK;
+        if (work->has_written || do_step(work, HUNKRAVY_STEP_EMPTY_JOURNAL, 0) != HUNKRAVY_OK ||
+            do_step(work, HUNKRAVY_STEP_SYNC_JOURNAL, 0) != HUNKRAVY_OK) {
+            break_file(file);
+        }
     }
     return code;
 }

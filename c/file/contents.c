@@ -409,7 +409,7 @@ static void drop_batch(hunkravy_file *file)
 
 void hunkravy_file_undo(hunkravy_file *file, uint64_t number)
 {
-    while (is_open(file, number)) {
+    while (hunkravy_file_seems_this(&file->owner) && is_open(file, number)) {
         struct batch *batch = file->batch;
         hunkravy_file_drop_pages(file, batch->number, 1);
         /* A page leaves one list before it enters another, since a process that is forked here may free both. */
@@ -458,6 +458,10 @@ uint64_t hunkravy_file_open_batches(const hunkravy_file *file)
 
 void hunkravy_file_discard(hunkravy_file *file)
 {
+    /* In another process they may be half changed. */
+    if (!hunkravy_file_seems_this(&file->owner)) {
+        return;
+    }
     while (file->batch != NULL) {
         drop_batch(file);
     }
@@ -486,5 +490,5 @@ int hunkravy_file_check(const hunkravy_file *file)
     if (!hunkravy_file_seems_this(&file->owner)) {
         return HUNKRAVY_FILE_LOCKED;
     }
-    return file->is_broken ? HUNKRAVY_FILE_BROKEN : HUNKRAVY_OK;
+    return __atomic_load_n(&file->is_broken, __ATOMIC_RELAXED) ? HUNKRAVY_FILE_BROKEN : HUNKRAVY_OK;
 }

@@ -50,6 +50,20 @@ int hunkravy_file_is_this(const struct process *process)
 
 /* ---- Calls of the system. Each returns 0, or the error number. Those that a new glibc has under new names are made directly. */
 
+/*
+ * Opens a file. It never has one of the three standard descriptors, which are free if the program's were closed: messages are
+ * written there.
+ */
+static int open_above(const char *path, int flags, mode_t mode)
+{
+    int fd = open(path, flags | O_CLOEXEC, mode), low = fd;
+    if (fd >= 0 && fd <= STDERR_FILENO) {
+        fd = fcntl(low, F_DUPFD_CLOEXEC, STDERR_FILENO + 1);
+        close(low);
+    }
+    return fd;
+}
+
 /* Fills `in` from a file, or writes `out` to it if `in` is null: all of the bytes. */
 static int transfer(int fd, uint8_t *in, const uint8_t *out, size_t length, uint64_t place)
 {
@@ -238,7 +252,7 @@ static int find_journal(const struct posix *posix, struct stat *found, int *is_t
 static int open_found(struct posix *posix, const struct stat *found)
 {
     struct stat own;
-    posix->journal = open(posix->journal_path, O_RDWR | O_NOFOLLOW | O_NONBLOCK | O_CLOEXEC);
+    posix->journal = open_above(posix->journal_path, O_RDWR | O_NOFOLLOW | O_NONBLOCK, 0);
     if (posix->journal < 0) {
         return errno;
     }
@@ -287,7 +301,7 @@ static int make_beside(const struct posix *posix, const char *path, int *made)
     struct stat of, own;
     int fd, code;
     TRY(look(posix->file, &of));
-    fd = open(path, O_RDWR | O_CREAT | O_EXCL | O_CLOEXEC, 0600);
+    fd = open_above(path, O_RDWR | O_CREAT | O_EXCL, 0600);
     if (fd < 0) {
         return errno;
     }
@@ -523,26 +537,48 @@ static struct posix *with_paths(const char *path)
     return posix;
 }
 
+/* Makes a path that leads to the same place if another thread changes the working folder. */
+static char *absolute(const char *path)
+{
+    char *folder = *path == '/' || *path == 0 ? strdup("") : getcwd(NULL, 0);
+    char *whole = folder == NULL ? NULL : malloc(strlen(folder) + strlen(path) + 2);
+    if (whole != NULL) {
+        strcpy(stpcpy(stpcpy(whole, folder), *folder != 0 ? "/" : ""), path);
+    }
+    free(folder);
+    return whole;
+}
+
+/* Opens a file at an absolute path, or makes one, with its paths. */
+static int open_with_paths(struct posix **posix, const char *path, int is_new)
+{
+    int code = 0, file = open_above(path, O_RDWR | (is_new ? O_CREAT | O_EXCL : 0), 0666);
+    if (file < 0) {
+        return errno;
+    }
+    *posix = with_paths(path);
+    if (*posix != NULL) {
+        (*posix)->file = file;
+        return 0;
+    }
+    code = errno;
+    if (is_new) {
+        unlink(path);
+    }
+    close(file);
+    return code;
+}
+
 /* Opens a file at a path, or makes one. */
 int hunkravy_file_posix(struct hunkravy_storage *storage, const char *path, int is_new)
 {
     struct process owner;
     struct posix *posix;
-    int code = hunkravy_file_this_process(&owner);
-    int file = code != 0 ? -1 : open(path, O_RDWR | O_CLOEXEC | (is_new ? O_CREAT | O_EXCL : 0), 0666);
-    if (file < 0) {
-        return code != 0 ? code : errno;
-    }
-    posix = with_paths(path);
-    if (posix == NULL) {
-        code = errno;
-        if (is_new) {
-            unlink(path);
-        }
-        close(file);
-        return code;
-    }
-    posix->file = file;
+    TRY(hunkravy_file_this_process(&owner));
+    char *whole = absolute(path);
+    int code = whole == NULL ? errno : open_with_paths(&posix, whole, is_new);
+    free(whole);
+    TRY(code);
     posix->journal = -1;
     posix->is_unfinished = is_new;
     posix->owner = owner;

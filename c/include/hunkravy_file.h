@@ -113,7 +113,7 @@ HUNKRAVY_MUST_USE int hunkravy_file_truncate(hunkravy_file *file, uint64_t size)
  */
 HUNKRAVY_MUST_USE int hunkravy_file_commit(hunkravy_file *file) HUNKRAVY_NONNULL(1);
 
-/* Discards all changes since the last commit, and ends each batch. */
+/* Discards all changes since the last commit, and ends each batch. Does nothing in a process that did not open the file. */
 void hunkravy_file_discard(hunkravy_file *file) HUNKRAVY_NONNULL(1);
 
 /* Begins a batch, in another one if there is any, and sets `*batch` to its number. */
@@ -122,7 +122,7 @@ HUNKRAVY_MUST_USE int hunkravy_file_begin(hunkravy_file *file, uint64_t *batch) 
 /* Ends a batch. After any error except HUNKRAVY_WRONG_STATE it has ended, and is undone unless the file is broken. */
 HUNKRAVY_MUST_USE int hunkravy_file_end(hunkravy_file *file, uint64_t batch) HUNKRAVY_NONNULL(1);
 
-/* Undoes a batch. Does nothing if no such batch is open. */
+/* Undoes a batch. Does nothing if no such batch is open, or in a process that did not open the file. */
 void hunkravy_file_undo(hunkravy_file *file, uint64_t batch) HUNKRAVY_NONNULL(1);
 
 /* How many batches are open, each in the one before it. */

@@ -249,7 +249,10 @@ static int uses_and_closes(char **words)
 {
     size_t length;
     uint8_t byte;
-    int is_right = has_result(hunkravy_file_read(held, 0, &byte, 1, &length), words[2]) &&
+    uint64_t size = hunkravy_file_size(held);
+    hunkravy_file_discard(held);
+    int is_right = hunkravy_file_size(held) == size &&
+        has_result(hunkravy_file_read(held, 0, &byte, 1, &length), words[2]) &&
         has_result(hunkravy_file_write(held, 0, "x", 1), words[2]) &&
         has_result(hunkravy_file_commit(held), words[2]) && hunkravy_file_close(held) == 0;
     return is_right ? 0 : 1;
@@ -277,6 +280,7 @@ static void check_lock(char **words)
     if (strcmp(name, "forked-child-opens") == 0) {
         HOLDS(in_child(opens, words) == 0);
     } else if (strcmp(name, "forked-child-uses") == 0) {
+        HOLDS(hunkravy_file_truncate(held, hunkravy_file_size(held) + 1) == 0);
         HOLDS(in_child(uses_and_closes, words) == 0);
     } else if (strcmp(name, "parent-after-child") == 0) {
         HOLDS(in_child(uses_and_closes, locked) == 0 && in_child(opens, locked) == 0);

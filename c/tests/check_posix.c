@@ -219,6 +219,39 @@ long __wrap_syscall(long number, ...)
     return __real_syscall(number, given[0], given[1], given[2], given[3]);
 }
 
+/* What another thread does before a path is resolved. */
+static const char *next_folder;
+char *__real_realpath(const char *name, char *resolved) __attribute__((weak));
+char *__wrap_realpath(const char *name, char *resolved);
+char *__wrap_realpath(const char *name, char *resolved)
+{
+    HOLDS(next_folder == NULL || chdir(next_folder) == 0);
+    next_folder = NULL;
+    return __real_realpath(name, resolved);
+}
+
+/* A path stays that of the folder in which it was given. */
+static void check_folders(const char *folder)
+{
+    hunkravy_file *opened;
+    HOLDS(chdir(folder) == 0);
+    next_folder = "/";
+    HOLDS(hunkravy_file_create(&opened, "file", HUNKRAVY_AEGIS256, key, sizeof key, 0) == 0);
+    HOLDS(hunkravy_file_close(opened) == 0 && unlink(path) == 0);
+}
+
+/* A program without a standard output writes its messages into no file. */
+static void check_descriptors(void)
+{
+    hunkravy_file *opened;
+    int kept = dup(STDOUT_FILENO);
+    HOLDS(kept > STDERR_FILENO && close(STDOUT_FILENO) == 0);
+    HOLDS(hunkravy_file_create(&opened, path, HUNKRAVY_AEGIS256, key, sizeof key, 0) == 0);
+    HOLDS(hunkravy_file_write(opened, 0, "before", 6) == 0 && hunkravy_file_commit(opened) == 0);
+    HOLDS(fcntl(STDOUT_FILENO, F_GETFD) == -1 && hunkravy_file_close(opened) == 0 && unlink(path) == 0);
+    HOLDS(dup2(kept, STDOUT_FILENO) == STDOUT_FILENO && close(kept) == 0);
+}
+
 /* Each byte is drawn: the chance that one is 0 each time is below 2^-100. */
 static void check_random(void)
 {
@@ -244,6 +277,8 @@ int main(void)
     check_order();
     check_signals();
     check_empty_writes();
+    check_folders(folder);
+    check_descriptors();
     check_random();
     printf("random-access files of the system: %lu checks\n", checks);
     return rmdir(folder) == 0 ? EXIT_SUCCESS : EXIT_FAILURE;

@@ -206,6 +206,8 @@ impl FileIo {
 
     fn with(options: &mut OpenOptions, path: &Path) -> Result<Self> {
         check_memory()?;
+        // Another thread may change the working folder.
+        let path = &std::path::absolute(path)?;
         Ok(Self::of(options.read(true).write(true).open(path)?, Some(resolved(path)?)))
     }
 
