@@ -137,7 +137,7 @@ class SealedWriter(Sealed):
     def __init__(self, file: BinaryIO, key: _ReadableBuffer) -> None:
         super().__init__(file)
         self._is_entered = False
-        self._process = os.getpid()
+        self._process = turns.process()
         prefix = os.urandom(PREFIX_BYTES)
         self._records = _native.Records(key, prefix, CONTEXT)
         self._record = bytearray(RECORD_BYTES + PIECE_BYTES)
@@ -221,7 +221,7 @@ class SealedWriter(Sealed):
 
     def _check_may_finish(self) -> None:
         # A wrapper that is freed in a forked process would seal other contents there under the same nonces.
-        if self._process != os.getpid():
+        if self._process != turns.process():
             raise OSError("the file cannot be completed: another process has made its writer")
         if not self._may_finish:
             raise OSError("the file cannot be completed: an earlier write failed")

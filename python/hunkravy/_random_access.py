@@ -72,7 +72,8 @@ class RandomAccessFile(variants.Secret, _native.RandomAccessFile):
         """Returns a raw file object with a position of its own, for example for `tarfile`, `zipfile` or `io.BufferedRandom`.
 
         Closing it commits, outside a batch, and so does its `flush`. That of an `io.BufferedRandom` over it does not: it
-        only makes the changes. The file stays open. Undoing a batch does not move the position back.
+        only makes the changes. The file stays open. Undoing a batch does not move the position back. After an exception of a
+        signal handler in a call the position may be where it was before.
         """
         return RandomAccessStream(self)
 

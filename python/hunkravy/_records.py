@@ -124,7 +124,8 @@ class RecordOpener(variants.Secret, turns.Turns):
     """Decrypts the records of a stream, in their order.
 
     The stream is complete only if `finish` returns. Until then it may be truncated. A fault raises `RecordError`, and
-    each later call raises it again, so a record cannot be tried with other bytes.
+    each later call raises it again, so a record cannot be tried with other bytes. After an exception of a signal handler
+    in `open`, go on with another opener `at` the `position` from before the call: this one may raise `RuntimeError`.
     """
 
     def __init__(
@@ -159,6 +160,8 @@ class RecordOpener(variants.Secret, turns.Turns):
         self._records.begin(number, before)
         self._position = (number, before)
         self._has_ended = False
+        # Whether a record is opened, and the position perhaps not moved.
+        self._is_between = False
         self._error: Optional[RecordError] = None
 
     @property
@@ -189,12 +192,14 @@ class RecordOpener(variants.Secret, turns.Turns):
                 raise ValueError(f"the record has {length} bytes, not {len(data)}")
             if len(data) < length:
                 raise self._fault("truncated")
+            number, before = self._position
+            self._is_between = True
             try:
                 self._has_ended = self._records.open(data)
+                self._position = (number + 1, before + length - RECORD_BYTES)
             except _native.InvalidTag:
                 raise self._fault("damaged") from None
-            number, before = self._position
-            self._position = (number + 1, before + length - RECORD_BYTES)
+            self._is_between = False
             return bytes(data[HEAD_BYTES:-TAG_BYTES])
 
     def finish(self, rest: _ReadableBuffer = b"") -> None:
@@ -209,6 +214,8 @@ class RecordOpener(variants.Secret, turns.Turns):
     def _check(self) -> None:
         if self._error is not None:
             raise RecordError(*self._error.args)
+        if self._is_between:
+            raise RuntimeError("an exception of a signal handler came while a record was opened")
 
     def _fault(self, cause: str) -> RecordError:
         self._error = RecordError(cause, self._position[0])

@@ -29,12 +29,18 @@ def count_fork() -> None:
 os.register_at_fork(after_in_child=count_fork)
 
 
+def process() -> tuple[int, int]:
+    """Returns this process. The numbers of one and of its child can be equal: both can be the first of a container."""
+    return os.getpid(), forks
+
+
 class Turns:
     """An object with a lock, so that threads take turns."""
 
     def __init__(self) -> None:
-        # By the number of forks: after one a thread of the other process may have the lock, for ever.
-        self._locks: dict[int, threading.Condition] = {}
+        # By the number of forks: after one a thread of the other process may have the lock, for ever. Entering a lock whose
+        # methods are C is one piece, so no exception of a signal handler keeps it locked.
+        self._locks: dict[int, Any] = {}
 
     def _turn(self) -> ContextManager[Any]:
         """Returns the lock. There is none if `__init__` has raised, and this thread may hold it in a method beneath."""
@@ -44,12 +50,7 @@ class Turns:
         locks = vars(self).get("_locks")
         if locks is None:
             return contextlib.nullcontext()
-        owner = locks.get(forks) or locks.setdefault(forks, threading.Condition())
-        try:
-            # Nothing waits for it. It raises unless this thread has the lock.
-            owner.notify()
-        except RuntimeError:
-            pass
-        else:
+        owner = locks.get(forks) or locks.setdefault(forks, threading.RLock())
+        if owner._is_owned():
             raise RuntimeError("reentrant call")
         return waited_for(owner)

@@ -8,6 +8,8 @@
  */
 #include "native.h"
 
+#include <pthread.h>
+
 #include "hunkravy.h"
 #include "hunkravy_records.h"
 
@@ -108,7 +110,7 @@ typedef struct Chunk {
 } Chunk;
 
 typedef struct {
-    PyObject_HEAD PyThread_type_lock lock;
+    LOCKED;
     size_t tag_bytes;
     bool is_mac;
     hunkravy_state state;
@@ -238,7 +240,7 @@ static PyObject *mac_verify(State *self, const Py_buffer *mac)
     static PyObject *state_##NAME(PyObject *object, PyObject *argument) \
     { \
         Py_buffer bytes; \
-        if (PyObject_GetBuffer(argument, &bytes, PyBUF_SIMPLE) < 0) { \
+        if (!is_usable(object) || PyObject_GetBuffer(argument, &bytes, PyBUF_SIMPLE) < 0) { \
             return NULL; \
         } \
         PyObject *result = NAME((State *)object, &bytes); \
@@ -257,7 +259,7 @@ static PyObject *state_final(PyObject *object, PyObject *none)
 {
     State *self = (State *)object;
     uint8_t *tag;
-    PyObject *result = new_bytes(self->tag_bytes, &tag);
+    PyObject *result = is_usable(self) ? new_bytes(self->tag_bytes, &tag) : NULL;
     (void)none;
     if (result == NULL) {
         return NULL;
@@ -273,7 +275,9 @@ static PyObject *state_final(PyObject *object, PyObject *none)
 static PyObject *state_mac_copy(PyObject *object, PyObject *none)
 {
     State *self = (State *)object;
-    State *other = self->is_mac ? new_object(Py_TYPE(object)) : result_of(self, HUNKRAVY_WRONG_STATE, NULL);
+    State *other = !is_usable(self) ? NULL
+        : self->is_mac              ? new_object(Py_TYPE(object))
+                                    : result_of(self, HUNKRAVY_WRONG_STATE, NULL);
     (void)none;
     if (other != NULL) {
         PyThreadState *released = lock(self, 0);
@@ -299,7 +303,7 @@ static PyMethodDef state_methods[] = {
 /* ---- A cipher with its key: messages in one call, and keystreams */
 
 typedef struct {
-    PyObject_HEAD PyThread_type_lock lock;
+    LOCKED;
     unsigned int variant;
     /* The length of the key, and of nonces. */
     size_t key_bytes;
@@ -518,7 +522,7 @@ static PyMethodDef cipher_methods[] = {
 /* ---- A record stream */
 
 typedef struct {
-    PyObject_HEAD PyThread_type_lock lock;
+    LOCKED;
     /* The bytes of the context, which the stream points to. */
     PyObject *context;
     uint8_t key[HUNKRAVY_RECORD_KEY_BYTES];
@@ -565,7 +569,7 @@ static PyObject *records_begin(PyObject *object, PyObject *given)
     uint64_t number = 0, before = 0;
     const uint8_t *context = (const uint8_t *)PyBytes_AsString(self->context);
     size_t length = (size_t)PyBytes_Size(self->context);
-    if (!PyArg_ParseTuple(given, "|O&O&", natural, &number, natural, &before)) {
+    if (!is_usable(self) || !PyArg_ParseTuple(given, "|O&O&", natural, &number, natural, &before)) {
         return NULL;
     }
     PyThreadState *released = lock(self, 0);
@@ -582,7 +586,7 @@ static PyObject *records_seal(PyObject *object, PyObject *given)
     Records *self = (Records *)object;
     Py_buffer record;
     int is_last, code = HUNKRAVY_WRONG_RECORD_LENGTH;
-    if (!PyArg_ParseTuple(given, "w*p", &record, &is_last)) {
+    if (!is_usable(self) || !PyArg_ParseTuple(given, "w*p", &record, &is_last)) {
         return NULL;
     }
     if (record.len >= HUNKRAVY_RECORD_BYTES) {
@@ -603,7 +607,7 @@ static PyObject *records_open(PyObject *object, PyObject *given)
     Py_buffer record;
     size_t length;
     int is_last = 0;
-    if (!PyArg_ParseTuple(given, "w*", &record)) {
+    if (!is_usable(self) || !PyArg_ParseTuple(given, "w*", &record)) {
         return NULL;
     }
     PyThreadState *released = lock(self, (size_t)record.len);
@@ -622,6 +626,13 @@ static PyMethodDef records_methods[] = {
 
 /* ---- The module */
 
+unsigned long forks;
+
+static void count_fork(void)
+{
+    forks++;
+}
+
 static PyType_Slot cipher_slots[] = {
     {Py_tp_new, SLOT(cipher_new)}, {Py_tp_dealloc, SLOT(cipher_free)}, {Py_tp_methods, cipher_methods}, {0, NULL}};
 static PyType_Slot state_slots[] = {{Py_tp_dealloc, SLOT(state_free)}, {Py_tp_methods, state_methods}, {0, NULL}};
@@ -637,10 +648,15 @@ static PyType_Spec specs[] = {
 
 static int execute(PyObject *object)
 {
+    static bool is_counted;
     Module *module = PyModule_GetState(object);
     if (module->state != NULL) {
         return 0;
     }
+    if (!is_counted && pthread_atfork(NULL, NULL, count_fork) != 0) {
+        return PyErr_NoMemory(), -1;
+    }
+    is_counted = true;
     module->invalid_tag = PyErr_NewExceptionWithDoc(
         "hunkravy.InvalidTag", "The tag is not that of the message, or the MAC is not that of the input.", NULL, NULL);
     int result = PyModule_AddObjectRef(object, "InvalidTag", module->invalid_tag);

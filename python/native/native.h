@@ -16,20 +16,47 @@
 /* The bit of Py_TPFLAGS_IMMUTABLETYPE keeps Python code from changing the types. */
 enum { TYPE_FLAGS = Py_TPFLAGS_DEFAULT | 1 << 8 };
 
-/* The first fields of each object. */
+/* The first fields of each object: its lock, and how many forks there had been when its process had the lock. */
+#define LOCKED \
+    PyObject_HEAD PyThread_type_lock lock; \
+    unsigned long forks
+
 typedef struct {
-    PyObject_HEAD PyThread_type_lock lock;
+    LOCKED;
 } Locked;
 
-/* Makes an object, whose fields after its lock are zeros. */
+/* How many forks are between this process and the one that has imported the module. */
+extern unsigned long forks;
+
+/* Makes an object, whose fields after these are zeros. */
 static inline void *new_object(PyTypeObject *type)
 {
-    PyObject *object = PyType_GenericAlloc(type, 0);
-    if (object != NULL && (((Locked *)object)->lock = PyThread_allocate_lock()) == NULL) {
+    Locked *object = (Locked *)PyType_GenericAlloc(type, 0);
+    if (object != NULL && (object->lock = PyThread_allocate_lock()) == NULL) {
         Py_CLEAR(object);
         PyErr_NoMemory();
+    } else if (object != NULL) {
+        object->forks = forks;
     }
     return object;
+}
+
+/*
+ * Whether this process can have the lock of an object. If a thread had it when the process was forked, it has it for ever, and
+ * what it was doing is half done. Then sets an exception.
+ */
+static inline bool is_usable(void *object)
+{
+    Locked *self = object;
+    if (self->forks != forks) {
+        if (!PyThread_acquire_lock(self->lock, NOWAIT_LOCK)) {
+            PyErr_SetString(PyExc_RuntimeError, "a thread was using this object when the process was forked");
+            return false;
+        }
+        self->forks = forks;
+        PyThread_release_lock(self->lock);
+    }
+    return true;
 }
 
 /* Makes bytes, which are written at `*out`. */

@@ -13,7 +13,7 @@
 #include "hunkravy_file.h"
 
 typedef struct {
-    PyObject_HEAD PyThread_type_lock lock;
+    LOCKED;
     hunkravy_file *file;
     /* The thread that may use it, or 0 for all. */
     unsigned long thread;
@@ -94,25 +94,31 @@ static PyObject *result_of(int code, uint64_t page, PyObject *path, PyObject *re
 
 /* ---- Turns */
 
+/* Waits, without the interpreter's lock, until no thread has the lock of a file. */
+static void wait_for_turn(File *self)
+{
+    PyThreadState *released = PyEval_SaveThread();
+    PyThread_acquire_lock(self->lock, WAIT_LOCK);
+    PyThread_release_lock(self->lock);
+    PyEval_RestoreThread(released);
+}
+
 /*
  * Takes the lock of a file that this thread may use. A thread that has it never waits for the interpreter's lock. After a
  * fork another thread may have it for ever, so it is not taken. Returns whether there is no exception.
  */
 static bool begin(File *self)
 {
+    if (self->file != NULL && hunkravy_file_check(self->file) == HUNKRAVY_FILE_LOCKED) {
+        return !raise_cause(HUNKRAVY_FILE_LOCKED, 0);
+    }
     if (self->thread != 0 && self->thread != PyThread_get_thread_ident()) {
         PyErr_SetString(PyExc_RuntimeError,
             "the file was opened in another thread: open it with check_same_thread=False, and let threads take turns");
         return false;
     }
     while (self->file != NULL && !PyThread_acquire_lock(self->lock, NOWAIT_LOCK)) {
-        if (hunkravy_file_check(self->file) == HUNKRAVY_FILE_LOCKED) {
-            return !raise_cause(HUNKRAVY_FILE_LOCKED, 0);
-        }
-        PyThreadState *released = PyEval_SaveThread();
-        PyThread_acquire_lock(self->lock, WAIT_LOCK);
-        PyThread_release_lock(self->lock);
-        PyEval_RestoreThread(released);
+        wait_for_turn(self);
     }
     if (self->file == NULL) {
         PyErr_SetString(PyExc_ValueError, "I/O operation on closed file");
@@ -280,11 +286,17 @@ static PyObject *file_create(PyObject *type, PyObject *given, PyObject *named)
 static PyObject *close_file(File *self, bool commits)
 {
     bool is_here = self->file != NULL && hunkravy_file_check(self->file) != HUNKRAVY_FILE_LOCKED;
-    if (self->file == NULL) {
-        Py_RETURN_NONE;
-    }
-    if (is_here && !begin(self)) {
+    if (is_here && !begin(self) && self->file != NULL) {
         return NULL;
+    }
+    if (self->file == NULL) {
+        PyErr_Clear();
+        /* Another thread may be closing it. */
+        if (is_usable(self)) {
+            wait_for_turn(self);
+        }
+        PyErr_Clear();
+        Py_RETURN_NONE;
     }
     if (!is_here && !PyThread_acquire_lock(self->lock, NOWAIT_LOCK)) {
         self->file = NULL;
@@ -543,7 +555,7 @@ static PyObject *batch_exit(PyObject *object, PyObject *given)
 {
     Batch *self = (Batch *)object;
     File *file = (File *)self->file;
-    uint64_t number = self->number, page;
+    uint64_t number, page;
     int failed = has_failed(given), code;
     if (failed > 0 && file->file == NULL) {
         leave_block(self);
@@ -553,6 +565,8 @@ static PyObject *batch_exit(PyObject *object, PyObject *given)
     if (!has_begun && !goes_on(file, failed)) {
         return NULL;
     }
+    /* Another thread may have ended it meanwhile, and begun it again. */
+    number = self->number;
     leave_block(self);
     if (!has_begun) {
         Py_RETURN_NONE;

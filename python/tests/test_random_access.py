@@ -18,6 +18,7 @@ import sys
 import tarfile
 import tempfile
 import threading
+import time
 import unittest
 import zipfile
 from collections.abc import Callable, Generator
@@ -349,7 +350,8 @@ class Files(unittest.TestCase):
                 forked.wait()
 
         def use() -> None:
-            for call in (lambda: file.read_at(0, 1), lambda: file.write_at(0, b"x"), file.commit, file.batch().__enter__):
+            calls: list[Callable[[], object]] = [file.commit, file.discard, file.batch().__enter__, lambda: file.read_at(0, 1)]
+            for call in calls + [lambda: file.write_at(0, b"x")]:
                 self.assertCause("locked", call)
             file.close()
 
@@ -442,6 +444,43 @@ class Files(unittest.TestCase):
                 done.set()
                 flushed.result()
             self.assertRaisesRegex(TypeError, "batch", type(batch), b"no file" * 10)
+
+    def test_a_batch_that_several_threads_end(self) -> None:
+        """The file counts its batches, whichever thread ends one."""
+
+        def end(turn: int) -> None:
+            with contextlib.suppress(RuntimeError):
+                batch.__exit__(None, None, None)
+                batch.__enter__()
+
+        with RandomAccessFile.create(self.path, KEY, check_same_thread=False) as file:
+            file.truncate(4 << 20)
+            with concurrent.futures.ThreadPoolExecutor(4) as threads:
+                for turn in range(20):
+                    batch = file.batch()
+                    batch.__enter__()
+                    threads.submit(file.read_at, 0, 4 << 20)
+                    list(threads.map(end, range(3)))
+                    with contextlib.suppress(RuntimeError):
+                        batch.__exit__(None, None, None)
+                    with file.batch():
+                        file.write_at(0, b"%2d" % turn)
+                    self.assertRaises(RuntimeError, batch.__exit__, None, None, None)
+                    # It was committed, so nothing is left to discard.
+                    file.discard()
+                    self.assertEqual(file.read_at(0, 2), b"%2d" % turn)
+
+    def test_two_threads_that_close(self) -> None:
+        """The second one returns after the commit of the first."""
+        file = RandomAccessFile.create(self.path, KEY, check_same_thread=False)
+        file.write_at(0, bytes(8 << 20))
+        with concurrent.futures.ThreadPoolExecutor(1) as other:
+            closed = other.submit(file.close)
+            while not file.closed:
+                time.sleep(0.001)
+            file.close()
+            self.assertEqual(len(contents(self.path)), 8 << 20)
+            self.assertIsNone(closed.result(20))
 
     def test_a_batch_that_ends_after_one_that_failed(self) -> None:
         def change(place: int) -> Generator[None, None, None]:

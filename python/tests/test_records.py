@@ -5,6 +5,7 @@ import concurrent.futures
 import io
 import unittest
 from typing import Any, Callable
+from unittest import mock
 
 import test_files
 from hunkravy import RecordError, RecordOpener, RecordSealer
@@ -91,6 +92,22 @@ class Streams(unittest.TestCase):
             with self.assertRaises(RecordError) as again:
                 call()
             self.assertEqual(again.exception.args, error.args)
+
+    def test_an_exception_of_a_signal_handler(self) -> None:
+        """No other record is taken for the one in which it came."""
+
+        def interrupted(record: bytearray) -> None:
+            records.open(record)
+            raise KeyError
+
+        header, first, last = stream([b"one", b"two"])
+        opener = RecordOpener(KEY, PREFIX, CONTEXT, header)
+        before, records = opener.position, opener._records
+        opener._records = mock.Mock(open=interrupted)
+        self.assertRaises(KeyError, opener.open, first)
+        for call in (lambda: opener.open(last), opener.finish, lambda: opener.record_length(bytes(5))):
+            self.assertRaisesRegex(RuntimeError, "signal handler", call)
+        self.assertEqual(RecordOpener.at(KEY, PREFIX, CONTEXT, *before).open(first), b"one")
 
     def test_after_the_end(self) -> None:
         sealer = RecordSealer(KEY, PREFIX)

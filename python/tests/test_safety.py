@@ -343,8 +343,8 @@ class Memory(unittest.TestCase):
 
 
 def contents(native: Any) -> bytes:
-    """The fields of a native object after its lock and the length of tags."""
-    return ctypes.string_at(id(native) + 40, type(native).__basicsize__ - 40)
+    """The fields of a native object after those of its lock and the length of tags."""
+    return ctypes.string_at(id(native) + 48, type(native).__basicsize__ - 48)
 
 
 # Objects of 512 bytes or more are freed by the C library, whose own fields take the first 32.
@@ -382,7 +382,7 @@ ciphertext = cipher.encrypt(nonce, message)
 for end in (lambda: decryptor.finalize(ciphertext[-32:]), lambda: decryptor.finalize(bytes(32)), lambda: None):
     decryptor = cipher.decryptor(nonce)
     decryptor.update(ciphertext[:-32])
-    place = ctypes.c_void_p.from_address(id(decryptor._state) + 712).value
+    place = ctypes.c_void_p.from_address(id(decryptor._state) + 720).value
     kept.append(bytes(1000))
     assert ctypes.string_at(place + 16, len(message)) == message
     try:

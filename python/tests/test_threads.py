@@ -13,7 +13,7 @@ import time
 import unittest
 from typing import Any, Callable, Optional
 
-from hunkravy import Aegis128L, Aegis256, Aegis256Mac, InvalidTag, SealedReader, SealedWriter
+from hunkravy import Aegis128L, Aegis256, Aegis256Mac, InvalidTag, RecordOpener, SealedReader, SealedWriter
 from processes import returns_in_a_fork
 
 # Zeros that take no memory, and that the library works on for a quarter of a second or more.
@@ -210,6 +210,36 @@ class Threads(unittest.TestCase):
             ends.set()
             thread.join()
         writer.close()
+
+    def test_a_fork_while_another_thread_has_a_lock(self) -> None:
+        """What it was doing is half done in the forked process, so each method of the object raises an error."""
+
+        def use() -> None:
+            for call in (mac.digest, mac.copy, lambda: mac.update(b""), lambda: mac.verify(bytes(32))):
+                self.assertRaisesRegex(RuntimeError, "when the process was forked", call)
+            self.assertEqual(other.digest(), Aegis256Mac(bytes(32)).digest())
+
+        mac, other = Aegis256Mac(bytes(32)), Aegis256Mac(bytes(32))
+        with Work(lambda: mac.update(ZEROS)):
+            self.assertTrue(returns_in_a_fork(use))
+
+    def test_an_exception_of_a_signal_handler(self) -> None:
+        """It keeps no turn."""
+
+        def interrupt(*_: object) -> None:
+            raise KeyError
+
+        opener = RecordOpener(bytes(32), bytes(24), b"", b"AGR2")
+        previous = signal.signal(signal.SIGALRM, interrupt)
+        try:
+            for _ in range(200):
+                with self.assertRaises(KeyError):
+                    signal.setitimer(signal.ITIMER_REAL, 0.00001 + random.random() * 0.0001)
+                    while True:
+                        opener.record_length(bytes(5))
+                self.assertEqual(opener.record_length(bytes(5)), 37)
+        finally:
+            signal.signal(signal.SIGALRM, previous)
 
     def test_a_signal_handler(self) -> None:
         """It runs between two calls, and may use the object that it interrupts."""
