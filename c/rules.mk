@@ -147,7 +147,7 @@ check-c-%: $(OUT)/%/libhunkravy.a
 	diff <(($(EXPORTS); $(PRIVATE)) | sort) <($(TOOLS_$*)nm --defined-only -g $< | awk 'NF == 3 { print $$3 }' | sort)
 	for program in $(C_PROGRAMS); do \
 		$(TOOLS_$*)$(CC) -std=c99 $(C_FLAGS) -O2 c/[et]*/$$program.c $< $(WRAPS) -o $(OUT)/$*/$$program && \
-		LEVEL=$(if $(filter both,$*),,$(or $(patsubst x86-64-v%,%,$(filter x86%,$*)),0)) \
+		LEVEL=$(if $(filter both,$*),,$(or $(patsubst x86-64-v%,%,$(filter x86%,$*)),1)) \
 			$(RUN_$*) $(OUT)/$*/$$program $(STORED_LINES) || exit 1; \
 	done
 	c/tests/check_records.sh $(RUN_$*) $(OUT)/$*/records
@@ -166,7 +166,7 @@ check-sanitized: $(OUT)/$(SANITIZED_LEVEL)/aegis_c.a
 	cp c/library/* c/file/* c/levels/choose.c $(SANITIZED)
 	sed -i 's/^int hunkravy_proved_/__attribute__((nonnull)) &/' $(SANITIZED)/proved.h
 	for program in $(C_PROGRAMS); do \
-		$(TOOLS_$(FOLDER))$(CC) -std=c99 $(C_FLAGS) $(SANITIZERS) -DHUNKRAVY_LEVEL=0 c/[et]*/$$program.c $(SANITIZED)/*.c $< \
+		$(TOOLS_$(FOLDER))$(CC) -std=c99 $(C_FLAGS) $(SANITIZERS) -DHUNKRAVY_LEVEL=1 c/[et]*/$$program.c $(SANITIZED)/*.c $< \
 			$(WRAPS) -o $(SANITIZED)/$$program && \
 		$(RUN_$(FOLDER)) $(SANITIZED)/$$program $(STORED_LINES) || exit 1; \
 	done

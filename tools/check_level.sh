@@ -72,32 +72,45 @@ is_bound() {
 }
 features=$(sed -n 's/^ *FEATURE(.*, \([a-z0-9]*\)).*/\1/p' "$levels/level.h")
 [ "$(wc -w <<< "$features")" = 9 ] || fail "level.h lists other features: $features"
+[ "$(grep -c '^ *OLDER_FEATURE(' "$levels/level.h")" = 7 ] || fail 'level.h lists other features of x86-64-v2'
 level=3
 for feature in $features; do
     grep -m 1 -q -w "$feature" /proc/cpuinfo || level=2
 done
 is_bound $level ./level
 
-# A system that does not save all registers of AVX has the lower level, whatever the processor has.
-cat > saved.c << 'END'
+# Each feature is needed for its level, and so is a system that saves all registers of AVX: without one the level is lower.
+cat > levels.c << 'END'
 #include <cpuid.h>
 #include <stdint.h>
-static uint32_t saved;
+#include <stdio.h>
+static unsigned lost_leaf, lost_bit;
+static uint32_t saved = 6;
+/* A processor that has all but one feature. */
+static int processor(unsigned leaf, unsigned *b, unsigned *c)
+{
+    *b = *c = leaf == lost_leaf ? ~lost_bit : ~0U;
+    return 1;
+}
+#define __get_cpuid_count(leaf, subleaf, a, b, c, d) ((void)(a), (void)(d), processor(leaf, b, c))
 #define __asm__(...) (low = saved, high = 0)
 #include "level.h"
-int main(int count, char **arguments)
+#define CHECK(LEAF, BIT, NAME) lost_leaf = LEAF, lost_bit = BIT, wrong += level_here() != level;
+int main(void)
 {
-    (void)arguments;
+    int wrong = level_here() != 3, level = 0;
+    LEVEL_2(CHECK)
+    level = 2;
+    LEVEL_3(CHECK)
+    lost_bit = 0;
     for (saved = 0; saved < 256; saved++) {
-        if (has_level_3() != (count > 1 && (saved & 6) == 6)) {
-            return 1;
-        }
+        wrong += level_here() != ((saved & 6) == 6 ? 3 : 2);
     }
-    return 0;
+    return wrong;
 }
 END
-gcc -O1 -Wno-unused-but-set-variable "-I$levels" saved.c -o saved
-if [ $level = 3 ]; then ./saved 3; else ./saved; fi || fail 'the registers that the system saves are not looked at'
+gcc -O1 -Wno-unused-but-set-variable "-I$levels" levels.c -o levels
+./levels || fail 'a level does not need each of its features'
 
 # On a processor of the lower level: the calls' bindings, and the tests over both libraries.
 if command -v qemu-x86_64 > /dev/null; then
@@ -108,6 +121,7 @@ if command -v qemu-x86_64 > /dev/null; then
     for feature in $features; do
         is_bound 2 qemu-x86_64 -cpu Haswell,-$feature ./level
     done
+    [ "$(qemu-x86_64 -cpu Conroe ./level | head -n 1)" = 0 ] || fail 'a processor below x86-64-v2 has a level'
     for library in "$archive" "$shared"; do
         gcc -std=c99 -O2 "-I$include" "$tests/check_states.c" "$library" -Wl,-rpath,"$(dirname "$shared")" -o states
         $old ./states "$lines"

@@ -8,23 +8,30 @@
  */
 int hunkravy_level(void);
 
+#if !defined HUNKRAVY_LEVEL || HUNKRAVY_LEVEL > 1
+#include "level.h"
+#endif
+
 #ifdef HUNKRAVY_LEVEL
 
 int hunkravy_level(void)
 {
+#if HUNKRAVY_LEVEL > 1
+    if (level_here() < HUNKRAVY_LEVEL) {
+        return 0;
+    }
+#endif
     return HUNKRAVY_LEVEL;
 }
 
 #else
-
-#include "level.h"
 
 #include <stddef.h>
 #include <sys/mman.h>
 
 int hunkravy_level(void)
 {
-    return has_level_3() ? 3 : 2;
+    return level_here();
 }
 
 #define HIDDEN __attribute__((visibility("hidden")))
@@ -54,7 +61,7 @@ static union {
 /* A page that cannot be made read-only stays as it is: the pointers are right. */
 __attribute__((constructor)) static void choose(void)
 {
-    if (has_level_3()) {
+    if (level_here() == 3) {
 #define EXPORT(NAME) hunkravy_chosen.functions.NAME = hunkravy_v3_##NAME;
 #include "exports.h"
 #undef EXPORT

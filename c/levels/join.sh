@@ -1,6 +1,6 @@
 #!/bin/sh
 # join.sh OUT.a V2.a V3.a: one static library of the builds for x86-64-v2 and x86-64-v3.
-# join.sh OUT.a ONE.a: one of a single build, whose level is LEVEL (0, as for ARM, if it is no level of x86-64).
+# join.sh OUT.a ONE.a: one of a single build, whose level is LEVEL (1, as for ARM, if it is no level of x86-64).
 #
 # A build is one object, whose only global names are its proved exports. The calls of c/library are joined with it, and
 # then its exports are local, so that only the calls have names. For two builds each call hunkravy_NAME becomes
@@ -52,7 +52,7 @@ done
 compile -c "$here/../library/common.c" -o "$work/common.o"
 if [ $# = 2 ]; then
     object "$2" library
-    set -- "-DHUNKRAVY_LEVEL=${LEVEL:-0}"
+    set -- "-DHUNKRAVY_LEVEL=${LEVEL:-1}"
 else
     object "$2" v2
     object "$3" v3
