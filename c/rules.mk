@@ -53,8 +53,9 @@ SONAME = libhunkravy.so.0
 $(OUT)/%/$(SONAME): $(OUT)/%/libhunkravy.a $(OWN_HEADERS:%=c/include/%) c/library/journal.h c/rules.mk
 	(echo 'HUNKRAVY_0 { global:'; $(EXPORTS) | sed 's/$$/;/'; echo 'local: *; };'; \
 		echo 'HUNKRAVY_PRIVATE { global:'; $(PRIVATE) | sed 's/$$/;/'; echo '};') > $(@D)/exports.map
+	cp $< $(@D)/shared.a && $(TOOLS_$*)ar d $(@D)/shared.a checked.o
 	$(TOOLS_$*)$(CC) -shared -s -Wl,-soname,$(SONAME),--version-script=$(@D)/exports.map,-z,defs,-z,relro,-z,now \
-		-Wl,--whole-archive $< -Wl,--no-whole-archive -o $@
+		-Wl,--whole-archive $(@D)/shared.a -Wl,--no-whole-archive -o $@
 
 # The levels are built in one folder, so one after the other.
 $(OUT)/x86-64-v3/aegis_c.a: | $(if $(CPU),,$(OUT)/x86-64-v2/aegis_c.a)
@@ -144,7 +145,7 @@ WRAPS = $$(case $$program in \
 
 # The archive has the calls of the headers and of journal.h, and no other name that is not local.
 check-c-%: $(OUT)/%/libhunkravy.a
-	diff <(($(EXPORTS); $(PRIVATE)) | sort) <($(TOOLS_$*)nm --defined-only -g $< | awk 'NF == 3 { print $$3 }' | sort)
+	diff <(($(EXPORTS); $(PRIVATE)) | sort) <($(TOOLS_$*)nm --defined-only -g $< | awk 'NF == 3 && $$3 !~ /_chk$$/ { print $$3 }' | sort)
 	for program in $(C_PROGRAMS); do \
 		$(TOOLS_$*)$(CC) -std=c99 $(C_FLAGS) -O2 c/[et]*/$$program.c $< $(WRAPS) -o $(OUT)/$*/$$program && \
 		LEVEL=$(if $(filter both,$*),,$(or $(patsubst x86-64-v%,%,$(filter x86%,$*)),1)) \

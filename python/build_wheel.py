@@ -36,8 +36,11 @@ INTERFACE = "cp311-abi3"
 # The oldest glibc that has what the module asks for.
 RELEASED = "manylinux_2_17"
 FLAGS = "-std=c11 -O2 -fPIC -Wall -Wextra -Wpedantic -fvisibility=hidden".split()
+FLAGS += "-fstack-protector-strong -U_FORTIFY_SOURCE -D_FORTIFY_SOURCE=3".split()
+# Branches lead only where a function or a case begins, by the beginning of the compiler's name for its machine.
+BRANCHES = {"x86_64": ["-fcf-protection"], "aarch64": ["-mbranch-protection=standard"]}
 # The library's names are not exported, so no other library's are used in their place.
-LINK_FLAGS = "-shared -s -Wl,--exclude-libs,ALL,-z,relro,-z,now".split()
+LINK_FLAGS = "-shared -s -Wl,--exclude-libs,ALL,--gc-sections,-z,relro,-z,now".split()
 
 
 def first(*paths: pathlib.Path) -> pathlib.Path:
@@ -72,10 +75,12 @@ def native_module(archive: pathlib.Path) -> bytes:
     headers = [f"-I{include()}", f"-I{sysconfig.get_path('include')}"]
     with tempfile.TemporaryDirectory() as folder:
         module = pathlib.Path(folder) / "module.so"
-        flags = [*FLAGS, *shlex.split(os.environ.get("CFLAGS", ""))]
         compiler = shlex.split(os.environ.get("CC", "")) or ["cc"]
-        command = [*compiler, *flags, *headers, *sorted(map(str, (HERE / "native").glob("*.c"))), str(archive)]
-        subprocess.run([*command, *LINK_FLAGS, "-o", str(module)], check=True)
+        machine = subprocess.run([*compiler, "-dumpmachine"], stdout=subprocess.PIPE, check=True, text=True).stdout
+        flags = [*FLAGS, *BRANCHES.get(machine.partition("-")[0], []), *shlex.split(os.environ.get("CFLAGS", ""))]
+        # The C library comes first, so that its checked functions are used, and not those of the archive.
+        objects = [*sorted(map(str, (HERE / "native").glob("*.c"))), "-lc", str(archive)]
+        subprocess.run([*compiler, *flags, *headers, *objects, *LINK_FLAGS, "-o", str(module)], check=True)
         return module.read_bytes()
 
 

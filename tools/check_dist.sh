@@ -87,7 +87,7 @@ for package in "$dist"/*_amd64.deb; do
     dpkg-deb -x "$package" "$work/system"
 done
 "${install_to[@]}" "$work/site" "$dist"/*_x86_64.whl
-folder=$work/empty/hunkravy-$version-x86_64-linux
+folder=$work/empty/hunkravy-$version-x86_64-linux system=$work/system/usr
 
 # Nothing is linked with the stand-in for the proved library.
 if grep -rFl 'a stand-in for hunkravy' "$work/empty" "$work/site" "$work/system"; then fail 'these files have the stand-in'; fi
@@ -124,6 +124,22 @@ glibc() {
 }
 glibc 2.17 "$folder/lib/libhunkravy.so.0" "$work/site/hunkravy/_native.abi3.so"
 glibc 2.34 "$folder/lib/hunkravy/x86-64-v2/hunkravy"
+
+# What is compiled from C checks its stack and its copies, is bound before it runs, and begins each function with a landing pad.
+hardened() {
+    local symbols functions
+    symbols=$(readelf -W --dyn-syms "$1")
+    for name in __stack_chk_fail __memcpy_chk; do
+        [[ $symbols == *" UND $name"* ]] || fail "$1 does not call $name"
+    done
+    [[ $(readelf -Wld "$1") =~ GNU_STACK.*' RW  '.*GNU_RELRO.*NOW ]] || fail "$1 has an executable stack, or can be bound later"
+    functions=$(awk '$4 == "FUNC" && $7 != "UND" { found++ } END { print found }' <<< "$symbols")
+    [[ $1 == *aarch64* ]] || [ "$(objdump -d "$1" | grep -cw endbr64)" -ge "$functions" ] || fail "$1 has functions with no landing pad"
+}
+for file in "$work"/empty/*/lib/libhunkravy.so.0 "$system"/lib/*/libhunkravy.so.0 "$work/site/hunkravy/_native.abi3.so"; do
+    hardened "$file"
+    if command -v hardening-check > /dev/null; then hardening-check --nocfprotection "$file"; fi
+done
 
 # The sums of the release are right, by the command of its page.
 command=$(sed -n 's/^2\. .*`\(sha256sum [^`]*\)`.*/\1/p' dist/VERIFY.md)
@@ -200,7 +216,6 @@ programs=$(for program in cargo python3; do dirname "$(command -v "$program" || 
 use() {
     (cd "$work" && env -i HOME="$HOME" PATH="$programs:/usr/bin:/bin" "$@")
 }
-system=$work/system/usr
 use make --no-print-directory -C "$root" check-install "OUT=$out" "PREFIX=$folder"
 use make --no-print-directory -C "$root" check-install "OUT=$out" "PREFIX=$system" "LIBRARIES=$system/lib/x86_64-linux-gnu"
 if command -v cargo > /dev/null; then

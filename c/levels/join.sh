@@ -15,9 +15,14 @@ out=$1
 work=$(mktemp -d)
 trap 'rm -r "$work"' EXIT
 
-# Compiles a file.
+# Compiles a file. Indirect branches lead only where a function or a case begins.
+case $("${CC:-gcc}" -dumpmachine) in
+x86_64*) branches=-fcf-protection ;;
+*) branches=-mbranch-protection=standard ;;
+esac
 compile() {
-    "${CC:-gcc}" -std=gnu99 -O2 -fPIC -fno-semantic-interposition -ffunction-sections -Wall -Wextra -Wpedantic -Werror "-I$here/../include" "-I$here/../library" "$@"
+    "${CC:-gcc}" -std=gnu99 -O2 -fPIC -fno-semantic-interposition -ffunction-sections -fdata-sections -fstack-protector-strong \
+        -U_FORTIFY_SOURCE -D_FORTIFY_SOURCE=3 $branches -Wall -Wextra -Wpedantic -Werror "-I$here/../include" "-I$here/../library" "$@"
 }
 
 # The names of the functions that an object exports.
@@ -76,5 +81,6 @@ for file in contents commit posix; do
 done
 "${CC:-gcc}" -r -nostdlib "$work"/file/*.o -o "$work/file.o"
 "${OBJCOPY:-objcopy}" --localize-hidden "$work/file.o"
+compile -fno-builtin -U_FORTIFY_SOURCE -c "$here/checked.c" -o "$work/checked.o"
 rm -f "$out"
-"${AR:-ar}" rcs "$out" "$work/hunkravy.o" "$work/file.o"
+"${AR:-ar}" rcs "$out" "$work/hunkravy.o" "$work/file.o" "$work/checked.o"
