@@ -217,7 +217,10 @@ use() {
     (cd "$work" && env -i HOME="$HOME" PATH="$programs:/usr/bin:/bin" "$@")
 }
 use make --no-print-directory -C "$root" check-install "OUT=$out" "PREFIX=$folder"
-use make --no-print-directory -C "$root" check-install "OUT=$out" "PREFIX=$system" "LIBRARIES=$system/lib/x86_64-linux-gnu"
+libraries=$system/lib/x86_64-linux-gnu
+use PKG_CONFIG_SYSROOT_DIR="$work/system" make --no-print-directory -C "$root" check-install "OUT=$out" "PREFIX=$system" "LIBRARIES=$libraries"
+options=$(use PKG_CONFIG_PATH="$libraries/pkgconfig" pkg-config --cflags --libs hunkravy)
+[ "${options% }" = -lhunkravy ] || fail "pkg-config prints $options for the installed package"
 if command -v cargo > /dev/null; then
     use CARGO_TARGET_DIR=target cargo run -q --offline --manifest-path "$folder/rust/Cargo.toml" --example first
 fi

@@ -5,8 +5,9 @@
  *
  * Build a program with `cc program.c $(pkg-config --cflags --libs hunkravy)`. If the library is in /some/where, set
  * PKG_CONFIG_PATH to /some/where/lib/pkgconfig first, and LD_LIBRARY_PATH to /some/where/lib to run the program. If it
- * is in /usr/local, run ldconfig once. To link the static library use -l:libhunkravy.a in place of -lhunkravy. Examples
- * are in share/doc/hunkravy/examples.
+ * is in /usr/local, run ldconfig once. To link the static library use -l:libhunkravy.a in place of -lhunkravy, and
+ * -Wl,--gc-sections, so that the program has only the functions that it calls. Examples are in
+ * share/doc/hunkravy/examples.
  *
  * FUNCTIONS FOR
  *
