@@ -31,6 +31,8 @@ ROOT = HERE.parent
 PROJECT = tomllib.loads((HERE / "pyproject.toml").read_text())["project"]
 # The headers that the module includes.
 HEADERS = ("hunkravy.h", "hunkravy_file.h", "hunkravy_records.h")
+# What lies beside the library, or beside this file, if a build with Rattle's kit wrote it: the notices and the list of its parts.
+PARTS = {"NOTICES": "licenses/NOTICES", "parts.spdx.json": "sboms/hunkravy.spdx.json"}
 # The stable interface, of Python 3.11 and later.
 INTERFACE = "cp311-abi3"
 # The oldest glibc that has what the module asks for.
@@ -89,8 +91,15 @@ def page() -> str:
     return re.sub(r"\[([^\]]*)\]\((?![a-z]+:|#)[^)]*\)", r"\1", (HERE / PROJECT["readme"]).read_text())
 
 
-def metadata() -> str:
+def parts(archive: pathlib.Path) -> dict[str, bytes]:
+    """The files of PARTS that are there, by their names in the folder of METADATA."""
+    found = {place: [path for path in (HERE / name, archive.parent / name) if path.exists()] for name, place in PARTS.items()}
+    return {place: paths[0].read_bytes() for place, paths in found.items() if paths}
+
+
+def metadata(*licences: str) -> str:
     """The file METADATA, which sources have as PKG-INFO."""
+    files = "".join(f"License-File: {name}\n" for name in ("LICENSE", *licences))
     classifiers = "".join(f"Classifier: {classifier}\n" for classifier in PROJECT["classifiers"])
     return f"""\
 Metadata-Version: 2.4
@@ -98,8 +107,7 @@ Name: {PROJECT["name"]}
 Version: {version()}
 Summary: {PROJECT["description"]}
 License-Expression: {PROJECT["license"]}
-License-File: LICENSE
-Requires-Python: {PROJECT["requires-python"]}
+{files}Requires-Python: {PROJECT["requires-python"]}
 {classifiers}Description-Content-Type: text/markdown
 
 {page()}"""
@@ -135,12 +143,13 @@ def moment() -> int:
     return int(os.environ.get("SOURCE_DATE_EPOCH", "315532800"))
 
 
-def write_wheel(folder: pathlib.Path, system: str, package: dict[str, bytes]) -> pathlib.Path:
-    """Writes the wheel of a package for a system, and returns its path."""
+def write_wheel(folder: pathlib.Path, system: str, package: dict[str, bytes], archive: pathlib.Path) -> pathlib.Path:
+    """Writes the wheel of a package over a library for a system, and returns its path."""
     tag = f"{INTERFACE}-{system}"
     info = f"hunkravy-{version()}.dist-info"
-    files = dict(package)
-    files[f"{info}/METADATA"] = metadata().encode()
+    more = parts(archive)
+    files = package | {f"{info}/{place}": data for place, data in more.items()}
+    files[f"{info}/METADATA"] = metadata(*(place[9:] for place in more if place.startswith("licenses/"))).encode()
     files[f"{info}/WHEEL"] = f"Wheel-Version: 1.0\nGenerator: hunkravy\nRoot-Is-Purelib: false\nTag: {tag}\n".encode()
     files[f"{info}/licenses/LICENSE"] = licence()
     lines = [record_line(name, data) for name, data in files.items()]
@@ -165,14 +174,14 @@ def own_system() -> str:
 
 def build_wheel(wheel_directory: str, config_settings: object = None, metadata_directory: object = None) -> str:
     """Builds the wheel for systems like this one."""
-    return write_wheel(pathlib.Path(wheel_directory), own_system(), sources() | built(library())).name
+    return write_wheel(pathlib.Path(wheel_directory), own_system(), sources() | built(library()), library()).name
 
 
 def build_editable(wheel_directory: str, config_settings: object = None, metadata_directory: object = None) -> str:
     """Builds a wheel that leads to the sources. What is built is written beside them."""
     for name, data in built(library()).items():
         (HERE / name).write_bytes(data)
-    return write_wheel(pathlib.Path(wheel_directory), own_system(), {"hunkravy.pth": f"{HERE}\n".encode()}).name
+    return write_wheel(pathlib.Path(wheel_directory), own_system(), {"hunkravy.pth": f"{HERE}\n".encode()}, library()).name
 
 
 def build_sdist(sdist_directory: str, config_settings: object = None) -> str:
@@ -182,6 +191,7 @@ def build_sdist(sdist_directory: str, config_settings: object = None) -> str:
     files = sources() | {path: (HERE / path).read_bytes() for path in own}
     files |= {f"include/{header}": (include() / header).read_bytes() for header in HEADERS}
     files |= {"lib/libhunkravy.a": library().read_bytes(), "LICENSE": licence()}
+    files |= {name: parts(library())[place] for name, place in PARTS.items() if place in parts(library())}
     files |= {PROJECT["readme"]: page().encode(), "PKG-INFO": metadata().encode()}
     path = pathlib.Path(sdist_directory) / f"{name}.tar.gz"
     with open(path, "wb") as file, gzip.GzipFile("", "wb", fileobj=file, mtime=moment()) as packed:
@@ -194,5 +204,5 @@ def build_sdist(sdist_directory: str, config_settings: object = None) -> str:
 
 
 if __name__ == "__main__":
-    package = sources() | built(pathlib.Path(sys.argv[2]))
-    print(write_wheel(pathlib.Path(sys.argv[1]), f"{RELEASED}_{sys.argv[3]}", package))
+    given = pathlib.Path(sys.argv[2])
+    print(write_wheel(pathlib.Path(sys.argv[1]), f"{RELEASED}_{sys.argv[3]}", sources() | built(given), given))

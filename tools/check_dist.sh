@@ -115,6 +115,26 @@ for licence in "$work"/empty/*/{,rust/,python/}LICENSE "$work"/system/usr/share/
     [ "$(grep -ihoE 'copyright:? (\(c\) )?2026 .*' "$licence" | sed 's/.*2026 //')" = 'The Hunkravy authors' ] || fail "$licence has another holder"
 done
 
+# What is linked into each file: the notices have the licence of each of the kit's libraries that the list of parts names, and
+# the list has those that crates.txt names.
+python3 - "$work"/empty/* "$work"/empty/*/{rust,python} "$system"/share/doc/{hunkravy,libhunkravy0,libhunkravy-dev} "$work"/site/hunkravy-*.dist-info << 'END' ||
+import json, pathlib, sys
+sys.path.insert(0, "tools")
+import proved
+rows, kit = proved.listed()[0], pathlib.Path(proved.KIT, "rattle")
+for folder in map(pathlib.Path, sys.argv[1:]):
+    wheel = folder.name.endswith(".dist-info")
+    notices = (folder / ("licenses/NOTICES" if wheel else "NOTICES")).read_text()
+    parts = json.loads((folder / ("sboms/hunkravy.spdx.json" if wheel else "parts.spdx.json")).read_text())
+    names = {part["name"] for part in parts["packages"]} - {"hunkravy", "glibc", "gcc"}
+    crate = "hunkravy" if folder.name == "hunkravy" or (folder / "bin").exists() else "aegis_c"
+    needed = {name for own in proved.below(rows, crate) | {crate} for name in rows[own]} - set(rows)
+    assert needed <= names and "std" in names, (folder, needed - names)
+    for path in (path for name in names for path in kit.glob(f"{name}/LICENSE*") if path.name != "LICENSE-APACHE"):
+        assert path.read_text() in notices, (folder, path)
+END
+    fail 'a file of the release has not the notices of what is linked into it'
+
 # glibc VERSION FILE..: whether files need no newer version of glibc.
 glibc() {
     for file in "${@:2}"; do
