@@ -292,7 +292,7 @@ check-install: | $(OUT) $(if $(filter aarch64,$(FOLDER)),gcc-aarch64-linux-gnu q
 			'if(NOT soname STREQUAL $(SONAME))' 'message(FATAL_ERROR "$${soname}")' 'endif()' > $(OUT)/cmake/CMakeLists.txt && \
 		finds() { \
 			cmake -S $(OUT)/cmake -B $(OUT)/cmake/build "-DASKED=$$1" \
-				-DCMAKE_PREFIX_PATH="$(PREFIX);$(LIBRARIES)" > /dev/null 2> $(OUT)/cmake/said; \
+				-DCMAKE_PREFIX_PATH="$(PREFIX)" > /dev/null 2> $(OUT)/cmake/said; \
 		} && \
 		for asked in 1.0 0.0.1 $(VERSION).1 '0.0.1;EXACT'; do ! finds $$asked || exit 1; done && \
 		for asked in '' '$(VERSION);EXACT' $(VERSION) '0.0...<1'; do finds "$$asked" || { cat $(OUT)/cmake/said; exit 1; }; done && \

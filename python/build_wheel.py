@@ -17,6 +17,7 @@ import pathlib
 import platform
 import re
 import shlex
+import shutil
 import subprocess
 import sys
 import sysconfig
@@ -72,12 +73,21 @@ def version() -> str:
     return found[1]
 
 
+def compiler_command() -> list[str]:
+    """The C compiler. Ends with a message for users of pip, as the last line of its output, if a build needs a package."""
+    compiler = shlex.split(os.environ.get("CC", "")) or ["cc"]
+    if shutil.which(compiler[0]) is None:
+        sys.exit(f"hunkravy: there is no C compiler {compiler[0]}: install gcc and libc6-dev, or use the wheel")
+    if not pathlib.Path(sysconfig.get_path("include"), "Python.h").exists():
+        sys.exit("hunkravy: there is no Python.h: install python3-dev (Fedora: python3-devel), or use the wheel")
+    return compiler
+
+
 def native_module(archive: pathlib.Path) -> bytes:
     """Compiles the native module."""
-    headers = [f"-I{include()}", f"-I{sysconfig.get_path('include')}"]
+    compiler, headers = compiler_command(), [f"-I{include()}", f"-I{sysconfig.get_path('include')}"]
     with tempfile.TemporaryDirectory() as folder:
         module = pathlib.Path(folder) / "module.so"
-        compiler = shlex.split(os.environ.get("CC", "")) or ["cc"]
         machine = subprocess.run([*compiler, "-dumpmachine"], stdout=subprocess.PIPE, check=True, text=True).stdout
         flags = [*FLAGS, *BRANCHES.get(machine.partition("-")[0], []), *shlex.split(os.environ.get("CFLAGS", ""))]
         # The C library comes first, so that its checked functions are used, and not those of the archive.

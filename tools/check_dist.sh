@@ -58,7 +58,7 @@ listed() {
     done < dist/contents.txt
 }
 for_arm() {
-    listed | awk '/^== / { is_of_tool = /hunkravy_/ } !is_of_tool && !/^bin\/|lib\/hunkravy\/|share\/(bash|fish|man|zsh)|backup\.sh/' |
+    listed | awk '/^== / { is_of_tool = /hunkravy_/ } !is_of_tool && !/^bin\/|lib\/hunkravy\/|share\/(bash|fish|man|zsh)|backup\.sh|^docs\/SEALED/' |
         sed 's/x86_64/aarch64/g; s/amd64/arm64/g'
 }
 # Each line after the name of its package, in order.
@@ -105,7 +105,12 @@ for unpacked in "$work"/empty/*; do
     has "$unpacked/PROVED.md" "^- Commit: $commit\$"
     has "$unpacked/PROVED.md" "^- Proofs, mutants, tests and programs of this revision: ${line:-not run here}\$"
     (cd "$unpacked" && python3 "$root/tools/check_pages.py" links) || fail 'a page has a dead link'
+    # No page names a file for another processor, or the tool where there is none.
+    machine=${unpacked#*-"$version"-} machine=${machine%-linux}
+    if [ "$machine" = x86_64 ]; then others='hunkravy-[^ ]*aarch64'; else others='hunkravy-[^ ]*x86_64|bin/hunkravy'; fi
+    if grep -rnE --include='*.md' "$others|^@" "$unpacked"; then fail "a page of $machine names other files"; fi
 done
+if grep -nE '\]\((\.|[^)#:]*/)' "$work"/site/hunkravy-*.dist-info/METADATA | grep -v '](http'; then fail 'the wheel has a link to a file that is not there'; fi
 has "$work/site/hunkravy/_version.py" "^VERSION = \"$version\"\$"
 has <("$folder/bin/hunkravy" --version) "^hunkravy $version\$"
 has "$folder/share/man/man1/hunkravy.1" "\"hunkravy $version\""
@@ -249,14 +254,23 @@ for source in "$folder"/python/*.whl "$folder/python"; do
     use "${install_to[@]}" packages "$source"
     use PYTHONPATH=packages python3 "$folder/python/examples/session_token.py"
 done
-# The commands of the page of the archive, on a copy.
+# Without a compiler, or without the header of Python, the last line that the build prints names a package.
+use CC=no-compiler "${install_to[@]}" packages "$folder/python" > "$work/said" 2>&1 || true
+grep -B 1 'end of output' "$work/said" | has - 'no C compiler no-compiler: install gcc'
+(cd "$folder/python" && python3 -Bc 'import build_wheel, sysconfig; sysconfig.get_path = lambda name: "/none"; build_wheel.native_module("")') \
+    2> "$work/said" || true
+has "$work/said" 'no Python.h: install python3-dev'
+
+# The commands of the page of the archive, on a copy. They install it in a folder of their own.
 cp -r "$folder" "$work/page"
 touch "$work/page/FILE"
-sed -n '/^```sh$/,/^```$/{ /^```/d; p }' "$folder/README.md" > "$work/commands"
-[ "$(wc -l < "$work/commands")" = 4 ] || fail 'the page of the archive has no commands'
+mkdir "$work/local"
+sed -n '/^```sh$/,/^```$/{ /^```/d; s|/usr/local|../local|; /^ldconfig$/d; p }' "$folder/README.md" > "$work/commands"
+[ "$(wc -l < "$work/commands")" = 5 ] || fail 'the page of the archive has no commands'
 use PIP_TARGET="$work/of-page" PIP_NO_INDEX=1 PIP_DISABLE_PIP_VERSION_CHECK=1 PIP_ROOT_USER_ACTION=ignore CARGO_NET_OFFLINE=true \
     bash -c 'cd page && while read -r command; do eval "$command" || exit 1; done < ../commands' > "$work/said" 2>&1 < /dev/null || { cat "$work/said"; fail 'a command of the page of the archive fails'; }
-for prefix in "$folder" "$system"; do
+use make --no-print-directory -C "$root" check-install "OUT=$out" "PREFIX=$work/local"
+for prefix in "$folder" "$system" "$work/local"; do
     use bash -ec 'rm -f key sealed opened; "$0" keygen key; seq 100000 > text; "$0" seal -k key text sealed
         "$0" check -k key sealed; "$0" open -k key sealed opened; cmp text opened' "$prefix/bin/hunkravy"
 done

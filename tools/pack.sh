@@ -38,7 +38,7 @@ settle() {
 
 # archive MACHINE: the archive for a processor, and its wheel.
 archive() {
-    local name=hunkravy-$version-$1-linux
+    local name=hunkravy-$version-$1-linux pages
     local folder=$work/$name wheel=$out/hunkravy-$version-cp311-abi3-manylinux_2_17_$1.whl
     install_to "$folder" install PREFIX= "TARGET=$1-unknown-linux-gnu"
     if [ "$1" = x86_64 ]; then install_to "$folder" install-tool PREFIX= CPU=both; fi
@@ -55,11 +55,16 @@ archive() {
         cp LICENSE "$part"
         python3 tools/parts.py "$part" aegis_c
     done
-    if [ "$1" = x86_64 ]; then python3 tools/parts.py "$folder" hunkravy aegis_c; fi
+    pages=(SECURITY.md CHANGELOG.md docs/{RANDOM-ACCESS,FORMATS,DIFFERENCES}.md {c,rust,python}/README.md)
+    if [ "$1" = x86_64 ]; then
+        python3 tools/parts.py "$folder" hunkravy aegis_c
+        pages+=(docs/SEALED-FILES.md)
+    fi
     proved > "$folder/PROVED.md"
-    python3 tools/ship_pages.py "$folder" SECURITY.md CHANGELOG.md docs/SEALED-FILES.md docs/RANDOM-ACCESS.md docs/FORMATS.md \
-        docs/DIFFERENCES.md c/README.md rust/README.md python/README.md
-    cp dist/archive.md.in "$folder/README.md"
+    python3 tools/ship_pages.py "$folder" "${pages[@]}"
+    # The lines for this processor, and the names of its files.
+    sed "s/^@$1@//; /^@[a-z0-9_]*@/d" dist/archive.md.in > "$folder/README.md"
+    find "$folder" -name '*.md' -exec sed -i "s/\(hunkravy-[^ ]*\)x86_64/\1$1/g" {} +
     cp dist/VERIFY.md "$folder"
     cp bench/x86-64-v3/peers.svg "$folder/speed.svg"
     settle "$folder"
