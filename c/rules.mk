@@ -53,8 +53,9 @@ SONAME = libhunkravy.so.0
 $(OUT)/%/$(SONAME): $(OUT)/%/libhunkravy.a $(OWN_HEADERS:%=c/include/%) c/library/journal.h c/rules.mk
 	(echo 'HUNKRAVY_0 { global:'; $(EXPORTS) | sed 's/$$/;/'; echo 'local: *; };'; \
 		echo 'HUNKRAVY_PRIVATE { global:'; $(PRIVATE) | sed 's/$$/;/'; echo '};') > $(@D)/exports.map
+	cp $< $(@D)/shared.a && $(TOOLS_$*)ar d $(@D)/shared.a checked.o
 	$(TOOLS_$*)$(CC) -shared -s -Wl,-soname,$(SONAME),--version-script=$(@D)/exports.map,-z,defs,-z,relro,-z,now \
-		-Wl,--whole-archive $< -Wl,--no-whole-archive -o $@
+		-Wl,--whole-archive $(@D)/shared.a -Wl,--no-whole-archive -o $@
 
 # The levels are built in one folder, so one after the other.
 $(OUT)/x86-64-v3/aegis_c.a: | $(if $(CPU),,$(OUT)/x86-64-v2/aegis_c.a)
@@ -144,10 +145,10 @@ WRAPS = $$(case $$program in \
 
 # The archive has the calls of the headers and of journal.h, and no other name that is not local.
 check-c-%: $(OUT)/%/libhunkravy.a
-	diff <(($(EXPORTS); $(PRIVATE)) | sort) <($(TOOLS_$*)nm --defined-only -g $< | awk 'NF == 3 { print $$3 }' | sort)
+	diff <(($(EXPORTS); $(PRIVATE)) | sort) <($(TOOLS_$*)nm --defined-only -g $< | awk 'NF == 3 && $$3 !~ /_chk$$/ { print $$3 }' | sort)
 	for program in $(C_PROGRAMS); do \
 		$(TOOLS_$*)$(CC) -std=c99 $(C_FLAGS) -O2 c/[et]*/$$program.c $< $(WRAPS) -o $(OUT)/$*/$$program && \
-		LEVEL=$(if $(filter both,$*),,$(or $(patsubst x86-64-v%,%,$(filter x86%,$*)),0)) \
+		LEVEL=$(if $(filter both,$*),,$(or $(patsubst x86-64-v%,%,$(filter x86%,$*)),1)) \
 			$(RUN_$*) $(OUT)/$*/$$program $(STORED_LINES) || exit 1; \
 	done
 	c/tests/check_records.sh $(RUN_$*) $(OUT)/$*/records
@@ -166,7 +167,7 @@ check-sanitized: $(OUT)/$(SANITIZED_LEVEL)/aegis_c.a
 	cp c/library/* c/file/* c/levels/choose.c $(SANITIZED)
 	sed -i 's/^int hunkravy_proved_/__attribute__((nonnull)) &/' $(SANITIZED)/proved.h
 	for program in $(C_PROGRAMS); do \
-		$(TOOLS_$(FOLDER))$(CC) -std=c99 $(C_FLAGS) $(SANITIZERS) -DHUNKRAVY_LEVEL=0 c/[et]*/$$program.c $(SANITIZED)/*.c $< \
+		$(TOOLS_$(FOLDER))$(CC) -std=c99 $(C_FLAGS) $(SANITIZERS) -DHUNKRAVY_LEVEL=1 c/[et]*/$$program.c $(SANITIZED)/*.c $< \
 			$(WRAPS) -o $(SANITIZED)/$$program && \
 		$(RUN_$(FOLDER)) $(SANITIZED)/$$program $(STORED_LINES) || exit 1; \
 	done
@@ -243,11 +244,13 @@ check-sodium: $(OUT)/both/libhunkravy.a
 # ---- Installing
 
 # Installs the headers, the libraries, the examples, and the files that pkg-config and CMake read, which find the others from
-# where they lie themselves.
+# where they lie themselves. In /usr pkg-config's file names the folders, so that no option is printed for those of the system.
 EXAMPLES_FOLDER = $(PREFIX)/share/doc/hunkravy/examples
 LIBRARIES = $(PREFIX)/lib
 CMAKE_FOLDER = $(LIBRARIES)/cmake/hunkravy
 SHARED = $(OUT)/$(FOLDER)/$(SONAME)
+PC_PREFIX = $(if $(filter /usr,$(PREFIX)),/usr,$${pcfiledir}/@RELATIVE@)
+PC_LIBRARIES = $(if $(filter /usr,$(PREFIX)),$(LIBRARIES),$${pcfiledir}/..)
 
 install: $(LIBRARY) $(SHARED)
 	install -d "$(DESTDIR)$(PREFIX)/include" "$(DESTDIR)$(LIBRARIES)/pkgconfig" "$(DESTDIR)$(EXAMPLES_FOLDER)"
@@ -258,7 +261,8 @@ install: $(LIBRARY) $(SHARED)
 	ln -sf $(SONAME) "$(DESTDIR)$(LIBRARIES)/libhunkravy.so"
 	install -m 644 $(C_EXAMPLES:%=c/examples/%.c) "$(DESTDIR)$(EXAMPLES_FOLDER)"
 	prefix=$$(realpath -m --relative-to="$(DESTDIR)$(LIBRARIES)/pkgconfig" "$(DESTDIR)$(PREFIX)/") && \
-		sed -e "s|@PREFIX@|$$prefix|" -e 's|@VERSION@|$(VERSION)|' c/include/hunkravy.pc.in \
+		sed -e 's|@PREFIX@|$(PC_PREFIX)|' -e 's|@LIBRARIES@|$(PC_LIBRARIES)|' -e 's|@VERSION@|$(VERSION)|' \
+			-e "s|@RELATIVE@|$$prefix|" c/include/hunkravy.pc.in \
 		> "$(DESTDIR)$(LIBRARIES)/pkgconfig/hunkravy.pc" && \
 		install -D -m 644 c/include/hunkravy-config.cmake "$(DESTDIR)$(CMAKE_FOLDER)/hunkravy-config.cmake" && \
 		echo "get_filename_component(_hunkravy_include \"\$${CMAKE_CURRENT_LIST_DIR}/../../pkgconfig/$$prefix/include\" ABSOLUTE)" \
@@ -272,7 +276,7 @@ check-install: | $(OUT) $(if $(filter aarch64,$(FOLDER)),gcc-aarch64-linux-gnu q
 	[ "$$(realpath "$$(pkg-config --variable=prefix hunkravy)")" = "$$(realpath "$(PREFIX)/")" ] && \
 	[ "$$(pkg-config --modversion hunkravy)" = $(VERSION) ] && \
 	shared=$$(pkg-config --cflags --libs hunkravy) && \
-	static="$$(pkg-config --cflags --libs-only-L hunkravy) -l:libhunkravy.a" && \
+	static="$$(pkg-config --cflags --libs-only-L hunkravy) -l:libhunkravy.a -Wl,--gc-sections" && \
 	for example in $(C_EXAMPLES); do for flags in "$$shared" "$$static"; do \
 		eval "$(TOOLS_$(FOLDER))$(CC) -std=c99 '$(EXAMPLES_FOLDER)/$$example.c' $$flags -o $(OUT)/$$example-installed" && \
 		$(RUN_$(FOLDER)) $(OUT)/$$example-installed || exit 1; \
@@ -288,16 +292,21 @@ check-install: | $(OUT) $(if $(filter aarch64,$(FOLDER)),gcc-aarch64-linux-gnu q
 			'if(NOT soname STREQUAL $(SONAME))' 'message(FATAL_ERROR "$${soname}")' 'endif()' > $(OUT)/cmake/CMakeLists.txt && \
 		finds() { \
 			cmake -S $(OUT)/cmake -B $(OUT)/cmake/build "-DASKED=$$1" \
-				-DCMAKE_PREFIX_PATH="$(PREFIX);$(LIBRARIES)" > /dev/null 2> $(OUT)/cmake/said; \
+				-DCMAKE_PREFIX_PATH="$(PREFIX)" > /dev/null 2> $(OUT)/cmake/said; \
 		} && \
 		for asked in 1.0 0.0.1 $(VERSION).1 '0.0.1;EXACT'; do ! finds $$asked || exit 1; done && \
-		for asked in '' '$(VERSION);EXACT' $(VERSION); do finds "$$asked" || { cat $(OUT)/cmake/said; exit 1; }; done && \
+		for asked in '' '$(VERSION);EXACT' $(VERSION) '0.0...<1'; do finds "$$asked" || { cat $(OUT)/cmake/said; exit 1; }; done && \
 		serves() { \
 			{ sed "s|@VERSION@|$$1|" c/include/hunkravy-config-version.cmake.in && \
 				echo 'message("compatible: $${PACKAGE_VERSION_COMPATIBLE}")'; } > $(OUT)/cmake/version.cmake && \
-			cmake -DPACKAGE_FIND_VERSION=$$2 -P $(OUT)/cmake/version.cmake 2>&1 | grep -q 'compatible: TRUE'; \
+			cmake -DPACKAGE_FIND_VERSION=$$2 "$${@:3}" -P $(OUT)/cmake/version.cmake 2>&1 | grep -q 'compatible: TRUE'; \
+		} && \
+		in_range() { \
+			serves $$1 $$2 -DPACKAGE_FIND_VERSION_RANGE=$$2...$$3 -DPACKAGE_FIND_VERSION_MIN=$$2 \
+				-DPACKAGE_FIND_VERSION_MAX=$${3#<} -DPACKAGE_FIND_VERSION_RANGE_MAX=$$(case $$3 in '<'*) echo EXCLUDE ;; *) echo INCLUDE ;; esac); \
 		} && \
 		serves 0.2.5 0.2.1 && serves 1.4.2 1.3 && ! serves 0.2.5 0.1.9 && ! serves 0.2.5 0.2.6 && ! serves 2.0.0 1.9 && \
+		in_range 0.2.5 0.1 '<1' && in_range 0.2.5 0.2.5 0.2.5 && ! in_range 0.2.5 0.2.6 1 && ! in_range 0.2.5 0.1 '<0.2.5' && \
 		cmake --build $(OUT)/cmake/build > /dev/null && \
 		$(OUT)/cmake/build/seal-hunkravy && $(OUT)/cmake/build/seal-static; \
 	else \

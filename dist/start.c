@@ -103,13 +103,13 @@ static int find(char *path, const char *name)
     return name && put(path, 0, name) && follow(path);
 }
 
-/* Finds the path of the build. */
-static int find_build(char *path, const char *name)
+/* Finds the path of the build for a level. */
+static int find_build(char *path, const char *name, int level)
 {
     if (!find(path, name)) {
         return 0;
     }
-    const char *build = has_level_3() ? "../lib/hunkravy/x86-64-v3/hunkravy" : "../lib/hunkravy/x86-64-v2/hunkravy";
+    const char *build = level == 3 ? "../lib/hunkravy/x86-64-v3/hunkravy" : "../lib/hunkravy/x86-64-v2/hunkravy";
     return put(path, folder_of(path), build);
 }
 
@@ -140,7 +140,10 @@ __attribute__((noreturn, used)) void begin(uintptr_t *stack)
     char **arguments = (char **)(stack + 1);
     char **environment = arguments + stack[0] + 1;
     char path[PATH_BYTES];
-    if (find_build(path, name_of_program(environment))) {
+    const int level = level_here();
+    if (level == 0) {
+        say("hunkravy: this processor is too old: x86-64-v2 is needed (SSE4.2, POPCNT)\n");
+    } else if (find_build(path, name_of_program(environment), level)) {
         (void)call(CALL_EXECVE, path, arguments, environment);
         say("hunkravy: cannot start ");
         say(path);

@@ -17,6 +17,7 @@ import pathlib
 import platform
 import re
 import shlex
+import shutil
 import subprocess
 import sys
 import sysconfig
@@ -31,13 +32,18 @@ ROOT = HERE.parent
 PROJECT = tomllib.loads((HERE / "pyproject.toml").read_text())["project"]
 # The headers that the module includes.
 HEADERS = ("hunkravy.h", "hunkravy_file.h", "hunkravy_records.h")
+# What lies beside the library, or beside this file, if a build with Rattle's kit wrote it: the notices and the list of its parts.
+PARTS = {"NOTICES": "licenses/NOTICES", "parts.spdx.json": "sboms/hunkravy.spdx.json"}
 # The stable interface, of Python 3.11 and later.
 INTERFACE = "cp311-abi3"
 # The oldest glibc that has what the module asks for.
 RELEASED = "manylinux_2_17"
 FLAGS = "-std=c11 -O2 -fPIC -Wall -Wextra -Wpedantic -fvisibility=hidden".split()
+FLAGS += "-fstack-protector-strong -U_FORTIFY_SOURCE -D_FORTIFY_SOURCE=3".split()
+# Branches lead only where a function or a case begins, by the beginning of the compiler's name for its machine.
+BRANCHES = {"x86_64": ["-fcf-protection"], "aarch64": ["-mbranch-protection=standard"]}
 # The library's names are not exported, so no other library's are used in their place.
-LINK_FLAGS = "-shared -s -Wl,--exclude-libs,ALL,-z,relro,-z,now".split()
+LINK_FLAGS = "-shared -s -Wl,--exclude-libs,ALL,--gc-sections,-z,relro,-z,now".split()
 
 
 def first(*paths: pathlib.Path) -> pathlib.Path:
@@ -67,15 +73,26 @@ def version() -> str:
     return found[1]
 
 
+def compiler_command() -> list[str]:
+    """The C compiler. Ends with a message for users of pip, as the last line of its output, if a build needs a package."""
+    compiler = shlex.split(os.environ.get("CC", "")) or ["cc"]
+    if shutil.which(compiler[0]) is None:
+        sys.exit(f"hunkravy: there is no C compiler {compiler[0]}: install gcc and libc6-dev, or use the wheel")
+    if not pathlib.Path(sysconfig.get_path("include"), "Python.h").exists():
+        sys.exit("hunkravy: there is no Python.h: install python3-dev (Fedora: python3-devel), or use the wheel")
+    return compiler
+
+
 def native_module(archive: pathlib.Path) -> bytes:
     """Compiles the native module."""
-    headers = [f"-I{include()}", f"-I{sysconfig.get_path('include')}"]
+    compiler, headers = compiler_command(), [f"-I{include()}", f"-I{sysconfig.get_path('include')}"]
     with tempfile.TemporaryDirectory() as folder:
         module = pathlib.Path(folder) / "module.so"
-        flags = [*FLAGS, *shlex.split(os.environ.get("CFLAGS", ""))]
-        compiler = shlex.split(os.environ.get("CC", "")) or ["cc"]
-        command = [*compiler, *flags, *headers, *sorted(map(str, (HERE / "native").glob("*.c"))), str(archive)]
-        subprocess.run([*command, *LINK_FLAGS, "-o", str(module)], check=True)
+        machine = subprocess.run([*compiler, "-dumpmachine"], stdout=subprocess.PIPE, check=True, text=True).stdout
+        flags = [*FLAGS, *BRANCHES.get(machine.partition("-")[0], []), *shlex.split(os.environ.get("CFLAGS", ""))]
+        # The C library comes first, so that its checked functions are used, and not those of the archive.
+        objects = [*sorted(map(str, (HERE / "native").glob("*.c"))), "-lc", str(archive)]
+        subprocess.run([*compiler, *flags, *headers, *objects, *LINK_FLAGS, "-o", str(module)], check=True)
         return module.read_bytes()
 
 
@@ -84,8 +101,15 @@ def page() -> str:
     return re.sub(r"\[([^\]]*)\]\((?![a-z]+:|#)[^)]*\)", r"\1", (HERE / PROJECT["readme"]).read_text())
 
 
-def metadata() -> str:
+def parts(archive: pathlib.Path) -> dict[str, bytes]:
+    """The files of PARTS that are there, by their names in the folder of METADATA."""
+    found = {place: [path for path in (HERE / name, archive.parent / name) if path.exists()] for name, place in PARTS.items()}
+    return {place: paths[0].read_bytes() for place, paths in found.items() if paths}
+
+
+def metadata(*licences: str) -> str:
     """The file METADATA, which sources have as PKG-INFO."""
+    files = "".join(f"License-File: {name}\n" for name in ("LICENSE", *licences))
     classifiers = "".join(f"Classifier: {classifier}\n" for classifier in PROJECT["classifiers"])
     return f"""\
 Metadata-Version: 2.4
@@ -93,8 +117,7 @@ Name: {PROJECT["name"]}
 Version: {version()}
 Summary: {PROJECT["description"]}
 License-Expression: {PROJECT["license"]}
-License-File: LICENSE
-Requires-Python: {PROJECT["requires-python"]}
+{files}Requires-Python: {PROJECT["requires-python"]}
 {classifiers}Description-Content-Type: text/markdown
 
 {page()}"""
@@ -130,12 +153,13 @@ def moment() -> int:
     return int(os.environ.get("SOURCE_DATE_EPOCH", "315532800"))
 
 
-def write_wheel(folder: pathlib.Path, system: str, package: dict[str, bytes]) -> pathlib.Path:
-    """Writes the wheel of a package for a system, and returns its path."""
+def write_wheel(folder: pathlib.Path, system: str, package: dict[str, bytes], archive: pathlib.Path) -> pathlib.Path:
+    """Writes the wheel of a package over a library for a system, and returns its path."""
     tag = f"{INTERFACE}-{system}"
     info = f"hunkravy-{version()}.dist-info"
-    files = dict(package)
-    files[f"{info}/METADATA"] = metadata().encode()
+    more = parts(archive)
+    files = package | {f"{info}/{place}": data for place, data in more.items()}
+    files[f"{info}/METADATA"] = metadata(*(place[9:] for place in more if place.startswith("licenses/"))).encode()
     files[f"{info}/WHEEL"] = f"Wheel-Version: 1.0\nGenerator: hunkravy\nRoot-Is-Purelib: false\nTag: {tag}\n".encode()
     files[f"{info}/licenses/LICENSE"] = licence()
     lines = [record_line(name, data) for name, data in files.items()]
@@ -160,14 +184,14 @@ def own_system() -> str:
 
 def build_wheel(wheel_directory: str, config_settings: object = None, metadata_directory: object = None) -> str:
     """Builds the wheel for systems like this one."""
-    return write_wheel(pathlib.Path(wheel_directory), own_system(), sources() | built(library())).name
+    return write_wheel(pathlib.Path(wheel_directory), own_system(), sources() | built(library()), library()).name
 
 
 def build_editable(wheel_directory: str, config_settings: object = None, metadata_directory: object = None) -> str:
     """Builds a wheel that leads to the sources. What is built is written beside them."""
     for name, data in built(library()).items():
         (HERE / name).write_bytes(data)
-    return write_wheel(pathlib.Path(wheel_directory), own_system(), {"hunkravy.pth": f"{HERE}\n".encode()}).name
+    return write_wheel(pathlib.Path(wheel_directory), own_system(), {"hunkravy.pth": f"{HERE}\n".encode()}, library()).name
 
 
 def build_sdist(sdist_directory: str, config_settings: object = None) -> str:
@@ -177,6 +201,7 @@ def build_sdist(sdist_directory: str, config_settings: object = None) -> str:
     files = sources() | {path: (HERE / path).read_bytes() for path in own}
     files |= {f"include/{header}": (include() / header).read_bytes() for header in HEADERS}
     files |= {"lib/libhunkravy.a": library().read_bytes(), "LICENSE": licence()}
+    files |= {name: parts(library())[place] for name, place in PARTS.items() if place in parts(library())}
     files |= {PROJECT["readme"]: page().encode(), "PKG-INFO": metadata().encode()}
     path = pathlib.Path(sdist_directory) / f"{name}.tar.gz"
     with open(path, "wb") as file, gzip.GzipFile("", "wb", fileobj=file, mtime=moment()) as packed:
@@ -189,5 +214,5 @@ def build_sdist(sdist_directory: str, config_settings: object = None) -> str:
 
 
 if __name__ == "__main__":
-    package = sources() | built(pathlib.Path(sys.argv[2]))
-    print(write_wheel(pathlib.Path(sys.argv[1]), f"{RELEASED}_{sys.argv[3]}", package))
+    given = pathlib.Path(sys.argv[2])
+    print(write_wheel(pathlib.Path(sys.argv[1]), f"{RELEASED}_{sys.argv[3]}", sources() | built(given), given))

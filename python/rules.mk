@@ -8,10 +8,16 @@ WHEEL_aarch64 = $(WHEEL_NAME)_aarch64.whl
 PACKAGE = python/build_wheel.py python/pyproject.toml python/README.md $(wildcard python/native/* python/hunkravy/*) \
 	c/include/hunkravy.h c/include/hunkravy_file.h c/include/hunkravy_records.h LICENSE
 
-$(WHEEL): $(OUT)/both/libhunkravy.a $(PACKAGE)
+# With the kit a wheel has the notices of Rattle's libraries in it.
+$(OUT)/%/NOTICES: tools/parts.py crates.txt VERSION
+	python3 tools/parts.py $(@D) aegis_c
+
+NOTICES = $(if $(shell command -v rt),$(OUT)/$(1)/NOTICES)
+
+$(WHEEL): $(OUT)/both/libhunkravy.a $(PACKAGE) $(call NOTICES,both)
 	CC="$(CC)" CFLAGS=-Werror python3 python/build_wheel.py $(OUT) $< x86_64
 
-$(WHEEL_aarch64): $(OUT)/aarch64/libhunkravy.a $(PACKAGE)
+$(WHEEL_aarch64): $(OUT)/aarch64/libhunkravy.a $(PACKAGE) $(call NOTICES,aarch64)
 	CC=$(TOOLS_aarch64)gcc CFLAGS=-Werror python3 python/build_wheel.py $(OUT) $< aarch64
 
 # The package, unpacked from its wheel.

@@ -58,7 +58,7 @@ listed() {
     done < dist/contents.txt
 }
 for_arm() {
-    listed | awk '/^== / { is_of_tool = /hunkravy_/ } !is_of_tool && !/^bin\/|lib\/hunkravy\/|share\/(bash|fish|man|zsh)|backup\.sh/' |
+    listed | awk '/^== / { is_of_tool = /hunkravy_/ } !is_of_tool && !/^bin\/|lib\/hunkravy\/|share\/(bash|fish|man|zsh)|backup\.sh|^docs\/SEALED/' |
         sed 's/x86_64/aarch64/g; s/amd64/arm64/g'
 }
 # Each line after the name of its package, in order.
@@ -87,7 +87,7 @@ for package in "$dist"/*_amd64.deb; do
     dpkg-deb -x "$package" "$work/system"
 done
 "${install_to[@]}" "$work/site" "$dist"/*_x86_64.whl
-folder=$work/empty/hunkravy-$version-x86_64-linux
+folder=$work/empty/hunkravy-$version-x86_64-linux system=$work/system/usr
 
 # Nothing is linked with the stand-in for the proved library.
 if grep -rFl 'a stand-in for hunkravy' "$work/empty" "$work/site" "$work/system"; then fail 'these files have the stand-in'; fi
@@ -105,7 +105,12 @@ for unpacked in "$work"/empty/*; do
     has "$unpacked/PROVED.md" "^- Commit: $commit\$"
     has "$unpacked/PROVED.md" "^- Proofs, mutants, tests and programs of this revision: ${line:-not run here}\$"
     (cd "$unpacked" && python3 "$root/tools/check_pages.py" links) || fail 'a page has a dead link'
+    # No page names a file for another processor, or the tool where there is none.
+    machine=${unpacked#*-"$version"-} machine=${machine%-linux}
+    if [ "$machine" = x86_64 ]; then others='hunkravy-[^ ]*aarch64'; else others='hunkravy-[^ ]*x86_64|bin/hunkravy'; fi
+    if grep -rnE --include='*.md' "$others|^@" "$unpacked"; then fail "a page of $machine names other files"; fi
 done
+if grep -nE '\]\((\.|[^)#:]*/)' "$work"/site/hunkravy-*.dist-info/METADATA | grep -v '](http'; then fail 'the wheel has a link to a file that is not there'; fi
 has "$work/site/hunkravy/_version.py" "^VERSION = \"$version\"\$"
 has <("$folder/bin/hunkravy" --version) "^hunkravy $version\$"
 has "$folder/share/man/man1/hunkravy.1" "\"hunkravy $version\""
@@ -114,6 +119,26 @@ for licence in "$work"/empty/*/{,rust/,python/}LICENSE "$work"/system/usr/share/
     has "$licence" 'Permission is hereby granted'
     [ "$(grep -ihoE 'copyright:? (\(c\) )?2026 .*' "$licence" | sed 's/.*2026 //')" = 'The Hunkravy authors' ] || fail "$licence has another holder"
 done
+
+# What is linked into each file: the notices have the licence of each of the kit's libraries that the list of parts names, and
+# the list has those that crates.txt names.
+python3 - "$work"/empty/* "$work"/empty/*/{rust,python} "$system"/share/doc/{hunkravy,libhunkravy0,libhunkravy-dev} "$work"/site/hunkravy-*.dist-info << 'END' ||
+import json, pathlib, sys
+sys.path.insert(0, "tools")
+import proved
+rows, kit = proved.listed()[0], pathlib.Path(proved.KIT, "rattle")
+for folder in map(pathlib.Path, sys.argv[1:]):
+    wheel = folder.name.endswith(".dist-info")
+    notices = (folder / ("licenses/NOTICES" if wheel else "NOTICES")).read_text()
+    parts = json.loads((folder / ("sboms/hunkravy.spdx.json" if wheel else "parts.spdx.json")).read_text())
+    names = {part["name"] for part in parts["packages"]} - {"hunkravy", "glibc", "gcc"}
+    crate = "hunkravy" if folder.name == "hunkravy" or (folder / "bin").exists() else "aegis_c"
+    needed = {name for own in proved.below(rows, crate) | {crate} for name in rows[own]} - set(rows)
+    assert needed <= names and "std" in names, (folder, needed - names)
+    for path in (path for name in names for path in kit.glob(f"{name}/LICENSE*") if path.name != "LICENSE-APACHE"):
+        assert path.read_text() in notices, (folder, path)
+END
+    fail 'a file of the release has not the notices of what is linked into it'
 
 # glibc VERSION FILE..: whether files need no newer version of glibc.
 glibc() {
@@ -124,6 +149,22 @@ glibc() {
 }
 glibc 2.17 "$folder/lib/libhunkravy.so.0" "$work/site/hunkravy/_native.abi3.so"
 glibc 2.34 "$folder/lib/hunkravy/x86-64-v2/hunkravy"
+
+# What is compiled from C checks its stack and its copies, is bound before it runs, and begins each function with a landing pad.
+hardened() {
+    local symbols functions
+    symbols=$(readelf -W --dyn-syms "$1")
+    for name in __stack_chk_fail __memcpy_chk; do
+        [[ $symbols == *" UND $name"* ]] || fail "$1 does not call $name"
+    done
+    [[ $(readelf -Wld "$1") =~ GNU_STACK.*' RW  '.*GNU_RELRO.*NOW ]] || fail "$1 has an executable stack, or can be bound later"
+    functions=$(awk '$4 == "FUNC" && $7 != "UND" { found++ } END { print found }' <<< "$symbols")
+    [[ $1 == *aarch64* ]] || [ "$(objdump -d "$1" | grep -cw endbr64)" -ge "$functions" ] || fail "$1 has functions with no landing pad"
+}
+for file in "$work"/empty/*/lib/libhunkravy.so.0 "$system"/lib/*/libhunkravy.so.0 "$work/site/hunkravy/_native.abi3.so"; do
+    hardened "$file"
+    if command -v hardening-check > /dev/null; then hardening-check --nocfprotection "$file"; fi
+done
 
 # The sums of the release are right, by the command of its page.
 command=$(sed -n 's/^2\. .*`\(sha256sum [^`]*\)`.*/\1/p' dist/VERIFY.md)
@@ -200,9 +241,11 @@ programs=$(for program in cargo python3; do dirname "$(command -v "$program" || 
 use() {
     (cd "$work" && env -i HOME="$HOME" PATH="$programs:/usr/bin:/bin" "$@")
 }
-system=$work/system/usr
 use make --no-print-directory -C "$root" check-install "OUT=$out" "PREFIX=$folder"
-use make --no-print-directory -C "$root" check-install "OUT=$out" "PREFIX=$system" "LIBRARIES=$system/lib/x86_64-linux-gnu"
+libraries=$system/lib/x86_64-linux-gnu
+use PKG_CONFIG_SYSROOT_DIR="$work/system" make --no-print-directory -C "$root" check-install "OUT=$out" "PREFIX=$system" "LIBRARIES=$libraries"
+options=$(use PKG_CONFIG_PATH="$libraries/pkgconfig" pkg-config --cflags --libs hunkravy)
+[ "${options% }" = -lhunkravy ] || fail "pkg-config prints $options for the installed package"
 if command -v cargo > /dev/null; then
     use CARGO_TARGET_DIR=target cargo run -q --offline --manifest-path "$folder/rust/Cargo.toml" --example first
 fi
@@ -211,14 +254,23 @@ for source in "$folder"/python/*.whl "$folder/python"; do
     use "${install_to[@]}" packages "$source"
     use PYTHONPATH=packages python3 "$folder/python/examples/session_token.py"
 done
-# The commands of the page of the archive, on a copy.
+# Without a compiler, or without the header of Python, the last line that the build prints names a package.
+use CC=no-compiler "${install_to[@]}" packages "$folder/python" > "$work/said" 2>&1 || true
+grep -B 1 'end of output' "$work/said" | has - 'no C compiler no-compiler: install gcc'
+(cd "$folder/python" && python3 -Bc 'import build_wheel, sysconfig; sysconfig.get_path = lambda name: "/none"; build_wheel.native_module("")') \
+    2> "$work/said" || true
+has "$work/said" 'no Python.h: install python3-dev'
+
+# The commands of the page of the archive, on a copy. They install it in a folder of their own.
 cp -r "$folder" "$work/page"
 touch "$work/page/FILE"
-sed -n '/^```sh$/,/^```$/{ /^```/d; p }' "$folder/README.md" > "$work/commands"
-[ "$(wc -l < "$work/commands")" = 4 ] || fail 'the page of the archive has no commands'
+mkdir "$work/local"
+sed -n '/^```sh$/,/^```$/{ /^```/d; s|/usr/local|../local|; /^ldconfig$/d; p }' "$folder/README.md" > "$work/commands"
+[ "$(wc -l < "$work/commands")" = 5 ] || fail 'the page of the archive has no commands'
 use PIP_TARGET="$work/of-page" PIP_NO_INDEX=1 PIP_DISABLE_PIP_VERSION_CHECK=1 PIP_ROOT_USER_ACTION=ignore CARGO_NET_OFFLINE=true \
     bash -c 'cd page && while read -r command; do eval "$command" || exit 1; done < ../commands' > "$work/said" 2>&1 < /dev/null || { cat "$work/said"; fail 'a command of the page of the archive fails'; }
-for prefix in "$folder" "$system"; do
+use make --no-print-directory -C "$root" check-install "OUT=$out" "PREFIX=$work/local"
+for prefix in "$folder" "$system" "$work/local"; do
     use bash -ec 'rm -f key sealed opened; "$0" keygen key; seq 100000 > text; "$0" seal -k key text sealed
         "$0" check -k key sealed; "$0" open -k key sealed opened; cmp text opened' "$prefix/bin/hunkravy"
 done

@@ -45,6 +45,14 @@ else
     echo 'left out: the Python package on a processor of level x86-64-v2, by qemu-x86_64, which is not installed'
 fi
 
+# On a processor that no build runs on, the import says so: the library of this module finds none.
+echo 'int __wrap_hunkravy_level(void); int __wrap_hunkravy_level(void) { return 0; }' > "$work/older.c"
+mkdir "$work/older"
+CC=gcc CFLAGS="-Wl,--wrap=hunkravy_level $work/older.c" python3 build_wheel.py "$work/older" "$library" "$(uname -m)" > "$work/wheel"
+python3 -m zipfile -e "$(cat "$work/wheel")" "$work/older"
+(PYTHONPATH=$work/older python3 -P -c 'import hunkravy' 2>&1 || true) | grep -q '^ImportError: .* x86-64-v2 ' ||
+    fail 'the import does not say that the processor is too old'
+
 # Another build gives the same bytes as that of `make`.
 again=$(CC=gcc python3 build_wheel.py "$work" "$library" "$(uname -m)")
 cmp "$again" "$(dirname "$folder")/$(basename "$again")" || fail 'two builds of the wheel differ'

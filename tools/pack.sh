@@ -38,7 +38,7 @@ settle() {
 
 # archive MACHINE: the archive for a processor, and its wheel.
 archive() {
-    local name=hunkravy-$version-$1-linux
+    local name=hunkravy-$version-$1-linux pages
     local folder=$work/$name wheel=$out/hunkravy-$version-cp311-abi3-manylinux_2_17_$1.whl
     install_to "$folder" install PREFIX= "TARGET=$1-unknown-linux-gnu"
     if [ "$1" = x86_64 ]; then install_to "$folder" install-tool PREFIX= CPU=both; fi
@@ -51,11 +51,20 @@ archive() {
     cp -R python/build_wheel.py python/pyproject.toml python/hunkravy python/native python/examples "$wheel" "$folder/python"
     # What Python and an editable installation leave beside the sources.
     rm -rf "$folder"/python/*/__pycache__ "$folder"/python/hunkravy/_version.py "$folder"/python/hunkravy/_native.abi3.so
-    for part in "$folder" "$folder/rust" "$folder/python"; do cp LICENSE "$part"; done
+    for part in "$folder" "$folder/rust" "$folder/python"; do
+        cp LICENSE "$part"
+        python3 tools/parts.py "$part" aegis_c
+    done
+    pages=(SECURITY.md CHANGELOG.md docs/{RANDOM-ACCESS,FORMATS,DIFFERENCES}.md {c,rust,python}/README.md)
+    if [ "$1" = x86_64 ]; then
+        python3 tools/parts.py "$folder" hunkravy aegis_c
+        pages+=(docs/SEALED-FILES.md)
+    fi
     proved > "$folder/PROVED.md"
-    python3 tools/ship_pages.py "$folder" SECURITY.md CHANGELOG.md docs/SEALED-FILES.md docs/RANDOM-ACCESS.md docs/FORMATS.md \
-        docs/DIFFERENCES.md c/README.md rust/README.md python/README.md
-    cp dist/archive.md.in "$folder/README.md"
+    python3 tools/ship_pages.py "$folder" "${pages[@]}"
+    # The lines for this processor, and the names of its files.
+    sed "s/^@$1@//; /^@[a-z0-9_]*@/d" dist/archive.md.in > "$folder/README.md"
+    find "$folder" -name '*.md' -exec sed -i "s/\(hunkravy-[^ ]*\)x86_64/\1$1/g" {} +
     cp dist/VERIFY.md "$folder"
     cp bench/x86-64-v3/peers.svg "$folder/speed.svg"
     settle "$folder"
@@ -64,11 +73,12 @@ archive() {
     cp "$wheel" "$out/dist"
 }
 
-# package NAME SECTION DEPENDS DESCRIPTION MORE: the Debian package of the files in work/NAME.
+# package NAME SECTION DEPENDS DESCRIPTION MORE: the Debian package of the files in work/NAME, over a build of CRATE.
 package() {
     local folder=$work/$1 doc=$work/$1/usr/share/doc/$1 size
     mkdir -p "$folder/DEBIAN" "$doc"
     (cat dist/copyright && sed -n '/^Permission/,$p' LICENSE | sed 's/^$/./; s/^/ /') > "$doc/copyright"
+    python3 tools/parts.py "$doc" "$CRATE"
     printf 'hunkravy (%s) unstable; urgency=medium\n\n  * See /usr/share/doc/%s/CHANGELOG.md.gz.\n\n -- %s  %s\n' "$version" "$1" \
         "$maintainer" "$(date -R -d "@$SOURCE_DATE_EPOCH")" | gzip -9n > "$doc/changelog.gz"
     gzip -9nc CHANGELOG.md > "$doc/CHANGELOG.md.gz"
@@ -99,7 +109,7 @@ END
 # libraries ARCHITECTURE TRIPLET TARGET: the packages of the library for a processor.
 libraries() {
     local library=usr/lib/$2
-    ARCHITECTURE=$1
+    ARCHITECTURE=$1 CRATE=aegis_c
     install_to "$work/libhunkravy-dev" install PREFIX=/usr "LIBRARIES=/$library" "TARGET=$3"
     mkdir -p "$work/libhunkravy0/$library" "$work/libhunkravy0/DEBIAN"
     mv "$work/libhunkravy-dev/$library"/libhunkravy.so.0* "$work/libhunkravy0/$library"
@@ -118,7 +128,7 @@ libraries() {
 archive x86_64
 if [ -f "$out/aarch64/libhunkravy.a" ]; then archive aarch64; fi
 if command -v dpkg-deb > /dev/null; then
-    ARCHITECTURE=amd64
+    ARCHITECTURE=amd64 CRATE=hunkravy
     install_to "$work/hunkravy" install-tool PREFIX=/usr CPU=both ZSH_COMPLETIONS=/usr/share/zsh/vendor-completions
     strip "$work"/hunkravy/usr/lib/hunkravy/*/hunkravy
     # lintian takes a program that needs no library for a library that lacks them.

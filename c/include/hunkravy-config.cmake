@@ -12,5 +12,6 @@ if(NOT TARGET hunkravy::hunkravy)
     add_library(hunkravy::static STATIC IMPORTED)
     set_target_properties(hunkravy::static PROPERTIES
         IMPORTED_LOCATION "${_hunkravy_libraries}/libhunkravy.a"
+        INTERFACE_LINK_OPTIONS "-Wl,--gc-sections"
         INTERFACE_INCLUDE_DIRECTORIES "${_hunkravy_include}")
 endif()

@@ -5,8 +5,9 @@
  *
  * Build a program with `cc program.c $(pkg-config --cflags --libs hunkravy)`. If the library is in /some/where, set
  * PKG_CONFIG_PATH to /some/where/lib/pkgconfig first, and LD_LIBRARY_PATH to /some/where/lib to run the program. If it
- * is in /usr/local, run ldconfig once. To link the static library use -l:libhunkravy.a in place of -lhunkravy. Examples
- * are in share/doc/hunkravy/examples.
+ * is in /usr/local, run ldconfig once. To link the static library use -l:libhunkravy.a in place of -lhunkravy, and
+ * -Wl,--gc-sections, so that the program has only the functions that it calls. Examples are in
+ * share/doc/hunkravy/examples.
  *
  * FUNCTIONS FOR
  *
@@ -343,7 +344,10 @@ void hunkravy_wipe(void *bytes, size_t length);
 #define HUNKRAVY_VERSION_PATCH 0
 const char *hunkravy_version(void);
 
-/* Returns the processor level of the build that runs: 3 or 2 for x86-64-v3 or x86-64-v2, and 0 on aarch64. */
+/*
+ * Returns the processor level of the build that runs: 3 or 2 for x86-64-v3 or x86-64-v2, and 1 on aarch64. It returns 0 on a
+ * processor that no build runs on, such as one below x86-64-v2. There the other functions end the program with SIGILL.
+ */
 int hunkravy_level(void);
 
 #ifdef __cplusplus

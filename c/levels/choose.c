@@ -1,72 +1,48 @@
 /*
  * The names of the library's functions, over its builds for two processor levels.
  *
- * Each name jumps through a pointer. A constructor sets all pointers once, to the build for x86-64-v3 if the processor
- * and the system have that level, and then makes their page read-only. Before that they lead to the build for
- * x86-64-v2. join.sh compiles this file and writes exports.h, a line EXPORT(NAME) for each function. With
- * HUNKRAVY_LEVEL the library is one build alone, and nothing is chosen.
+ * Each name branches on a flag, which a constructor sets once: to the build for x86-64-v3 if the processor and the system
+ * have that level, and otherwise, or before that, to the one for x86-64-v2. No table names the functions, so a linker can
+ * drop those that a program does not call. join.sh compiles this file and writes exports.h, a line EXPORT(NAME) for each
+ * function. With HUNKRAVY_LEVEL the library is one build alone, and nothing is chosen.
  */
+#if !defined HUNKRAVY_LEVEL || HUNKRAVY_LEVEL > 1
+#include "level.h"
+#endif
+
 int hunkravy_level(void);
 
 #ifdef HUNKRAVY_LEVEL
 
 int hunkravy_level(void)
 {
+#if HUNKRAVY_LEVEL > 1
+    if (level_here() < HUNKRAVY_LEVEL) {
+        return 0;
+    }
+#endif
     return HUNKRAVY_LEVEL;
 }
 
 #else
 
-#include "level.h"
-
-#include <stddef.h>
-#include <sys/mman.h>
-
 int hunkravy_level(void)
 {
-    return has_level_3() ? 3 : 2;
+    return level_here();
 }
 
-#define HIDDEN __attribute__((visibility("hidden")))
-#define EXPORT(NAME) \
-    HIDDEN void hunkravy_v2_##NAME(void); \
-    HIDDEN void hunkravy_v3_##NAME(void);
-#include "exports.h"
-#undef EXPORT
+__attribute__((used)) static char hunkravy_has_level_3;
 
-struct functions {
-#define EXPORT(NAME) void (*NAME)(void);
-#include "exports.h"
-#undef EXPORT
-};
-
-/* The pointers have a page of their own. */
-enum { PAGE = 4096 };
-static union {
-    struct functions functions;
-    char page[PAGE];
-} hunkravy_chosen __attribute__((aligned(PAGE), used)) = {{
-#define EXPORT(NAME) hunkravy_v2_##NAME,
-#include "exports.h"
-#undef EXPORT
-}};
-
-/* A page that cannot be made read-only stays as it is: the pointers are right. */
 __attribute__((constructor)) static void choose(void)
 {
-    if (has_level_3()) {
-#define EXPORT(NAME) hunkravy_chosen.functions.NAME = hunkravy_v3_##NAME;
-#include "exports.h"
-#undef EXPORT
-    }
-    (void)mprotect(&hunkravy_chosen, sizeof hunkravy_chosen, PROT_READ);
+    hunkravy_has_level_3 = level_here() == 3;
 }
 
 #define EXPORT(NAME) \
     void hunkravy_##NAME(void); \
     __attribute__((naked)) void hunkravy_##NAME(void) \
     { \
-        __asm__("jmp *hunkravy_chosen+%c0(%%rip)" : : "i"(offsetof(struct functions, NAME))); \
+        __asm__("cmpb $0, hunkravy_has_level_3(%rip)\n jne hunkravy_v3_" #NAME "\n jmp hunkravy_v2_" #NAME); \
     }
 #include "exports.h"
 

@@ -1,6 +1,6 @@
 #!/bin/sh
 # join.sh OUT.a V2.a V3.a: one static library of the builds for x86-64-v2 and x86-64-v3.
-# join.sh OUT.a ONE.a: one of a single build, whose level is LEVEL (0, as for ARM, if it is no level of x86-64).
+# join.sh OUT.a ONE.a: one of a single build, whose level is LEVEL (1, as for ARM, if it is no level of x86-64).
 #
 # A build is one object, whose only global names are its proved exports. The calls of c/library are joined with it, and
 # then its exports are local, so that only the calls have names. For two builds each call hunkravy_NAME becomes
@@ -15,9 +15,14 @@ out=$1
 work=$(mktemp -d)
 trap 'rm -r "$work"' EXIT
 
-# Compiles a file.
+# Compiles a file. Indirect branches lead only where a function or a case begins.
+case $("${CC:-gcc}" -dumpmachine) in
+x86_64*) branches=-fcf-protection ;;
+*) branches=-mbranch-protection=standard ;;
+esac
 compile() {
-    "${CC:-gcc}" -std=gnu99 -O2 -fPIC -fno-semantic-interposition -ffunction-sections -Wall -Wextra -Wpedantic -Werror "-I$here/../include" "-I$here/../library" "$@"
+    "${CC:-gcc}" -std=gnu99 -O2 -fPIC -fno-semantic-interposition -ffunction-sections -fdata-sections -fstack-protector-strong \
+        -U_FORTIFY_SOURCE -D_FORTIFY_SOURCE=3 $branches -Wall -Wextra -Wpedantic -Werror "-I$here/../include" "-I$here/../library" "$@"
 }
 
 # The names of the functions that an object exports.
@@ -52,7 +57,7 @@ done
 compile -c "$here/../library/common.c" -o "$work/common.o"
 if [ $# = 2 ]; then
     object "$2" library
-    set -- "-DHUNKRAVY_LEVEL=${LEVEL:-0}"
+    set -- "-DHUNKRAVY_LEVEL=${LEVEL:-1}"
 else
     object "$2" v2
     object "$3" v3
@@ -76,5 +81,6 @@ for file in contents commit posix; do
 done
 "${CC:-gcc}" -r -nostdlib "$work"/file/*.o -o "$work/file.o"
 "${OBJCOPY:-objcopy}" --localize-hidden "$work/file.o"
+compile -fno-builtin -U_FORTIFY_SOURCE -c "$here/checked.c" -o "$work/checked.o"
 rm -f "$out"
-"${AR:-ar}" rcs "$out" "$work/hunkravy.o" "$work/file.o"
+"${AR:-ar}" rcs "$out" "$work/hunkravy.o" "$work/file.o" "$work/checked.o"

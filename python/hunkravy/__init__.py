@@ -72,9 +72,9 @@ __all__ = [
 
 
 def level() -> int:
-    """Returns which build of the library runs: 3 or 2 for x86-64-v3 or x86-64-v2, and 0 on aarch64.
+    """Returns which build of the library runs: 3 or 2 for x86-64-v3 or x86-64-v2, and 1 on aarch64.
 
-    >>> level() in (0, 2, 3)
+    >>> level() in (1, 2, 3)
     True
     """
     return _LEVEL

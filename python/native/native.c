@@ -657,6 +657,10 @@ static int execute(PyObject *object)
         return PyErr_NoMemory(), -1;
     }
     is_counted = true;
+    if (hunkravy_level() == 0) {
+        PyErr_SetString(PyExc_ImportError, "hunkravy needs a processor with x86-64-v2 (SSE4.2, POPCNT) or better");
+        return -1;
+    }
     module->invalid_tag = PyErr_NewExceptionWithDoc(
         "hunkravy.InvalidTag", "The tag is not that of the message, or the MAC is not that of the input.", NULL, NULL);
     int result = PyModule_AddObjectRef(object, "InvalidTag", module->invalid_tag);

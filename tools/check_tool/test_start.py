@@ -44,6 +44,7 @@ class Start(Scene):
         install("place", None)
         for processor, level in ("Haswell", 1), ("Nehalem", 0), *((f"Haswell,-{name}", 0) for name in FEATURES):
             self.tool(0, ["qemu-x86_64", "-cpu", processor, "place/bin/hunkravy"], rf"^{LEVELS[level]}$")
+        self.tool(127, ["qemu-x86_64", "-cpu", "Conroe", "place/bin/hunkravy"], "^hunkravy: this processor is too old")
 
     # Through links, and by names that a program for a shell would take for an option, or that have no folder.
     def test_names(self):
