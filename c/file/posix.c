@@ -51,17 +51,17 @@ int hunkravy_file_is_this(const struct process *process)
 /* ---- Calls of the system. Each returns 0, or the error number. Those that a new glibc has under new names are made directly. */
 
 /*
- * Opens a file. It never has one of the three standard descriptors, which are free if the program's were closed: messages are
- * written there.
+ * Opens a file. It never has one of the three standard descriptors: messages are written there. Those that the program has
+ * closed stay of no use, but are no longer free.
  */
 static int open_above(const char *path, int flags, mode_t mode)
 {
-    int fd = open(path, flags | O_CLOEXEC, mode), low = fd;
-    if (fd >= 0 && fd <= STDERR_FILENO) {
-        fd = fcntl(low, F_DUPFD_CLOEXEC, STDERR_FILENO + 1);
-        close(low);
+    for (int fd = STDIN_FILENO; fd <= STDERR_FILENO; fd++) {
+        if (fcntl(fd, F_GETFD) == -1 && open("/", O_PATH | O_CLOEXEC) < 0) {
+            return -1;
+        }
     }
-    return fd;
+    return open(path, flags | O_CLOEXEC, mode);
 }
 
 /* Fills `in` from a file, or writes `out` to it if `in` is null: all of the bytes. */

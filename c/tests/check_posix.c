@@ -240,7 +240,7 @@ static void check_folders(const char *folder)
     HOLDS(hunkravy_file_close(opened) == 0 && unlink(path) == 0);
 }
 
-/* A program without a standard output writes its messages into no file. */
+/* A program without a standard output writes its messages into no file, and finds it closed as before. */
 static void check_descriptors(void)
 {
     hunkravy_file *opened;
@@ -248,7 +248,8 @@ static void check_descriptors(void)
     HOLDS(kept > STDERR_FILENO && close(STDOUT_FILENO) == 0);
     HOLDS(hunkravy_file_create(&opened, path, HUNKRAVY_AEGIS256, key, sizeof key, 0) == 0);
     HOLDS(hunkravy_file_write(opened, 0, "before", 6) == 0 && hunkravy_file_commit(opened) == 0);
-    HOLDS(fcntl(STDOUT_FILENO, F_GETFD) == -1 && hunkravy_file_close(opened) == 0 && unlink(path) == 0);
+    HOLDS(write(STDOUT_FILENO, "x", 1) == -1 && errno == EBADF);
+    HOLDS(hunkravy_file_close(opened) == 0 && unlink(path) == 0);
     HOLDS(dup2(kept, STDOUT_FILENO) == STDOUT_FILENO && close(kept) == 0);
 }
 

@@ -140,5 +140,10 @@ class RandomAccessStream(variants.Secret, RawFile):  # type: ignore[misc]
 
     def flush(self) -> None:
         """Commits, unless in a batch."""
-        if not self.closed and not self._file.closed and not self._file._is_in_batch:
+        if self.closed:
+            return
+        if self._file.closed:
+            # Another thread may still be closing it.
+            self._file.close()
+        elif not self._file._is_in_batch:
             self._file.commit()
