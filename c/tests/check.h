@@ -80,15 +80,6 @@ static inline uint8_t *copied(const void *bytes, size_t length)
     return copy;
 }
 
-/* Writes a number in this many bytes, the lowest first. Returns where they end. */
-static inline uint8_t *write_number(uint8_t *at, uint64_t number, size_t bytes)
-{
-    for (size_t i = 0; i < bytes; i++) {
-        *at++ = (uint8_t)(number >> 8 * i);
-    }
-    return at;
-}
-
 /* Random numbers, the same in each run. */
 static inline uint64_t next_number(void)
 {

@@ -1,13 +1,11 @@
 /*
- * The calls on pages and headers: pages of several sizes against the call at once on the bytes of
- * the format, changed pages, pages and headers of another number, file or key, wrong lengths, the
- * limits, and the places of pages. It ends with status 0 only if every result is right.
+ * The calls on pages and headers: pages of several sizes, changed pages, pages and headers of another number, file or key,
+ * wrong lengths, the limits, and the places of pages. The bytes of the format are in testkit/corpus.
  */
 #include "check.h"
 
 #define TAG HUNKRAVY_PAGE_TAG_BYTES
 #define BLOCK HUNKRAVY_PAGE_HEADER_BLOCK_BYTES
-#define CLEAR 33
 #define MOST_CONTENTS HUNKRAVY_PAGE_MAX_CONTENTS_BYTES
 
 static const uint32_t SIZES[] = {256, 257, 271, 272, 511, 512, 4096, 65535, 65536};
@@ -51,47 +49,6 @@ static int seal_header(
         npub, layout->n, layout->k, layout->n);
 }
 
-/* ---- The format, as docs/FORMATS.md defines it */
-
-/* The first bytes of a header. A byte stands for each variant. */
-static void write_clear(uint8_t *clear, const struct layout *layout)
-{
-    static const uint8_t BYTES[] = {17, 18, 20, 33, 34, 36};
-
-    memcpy(clear, "AGP1", 4);
-    clear[4] = BYTES[layout->variant];
-    memcpy(write_number(clear + 5, layout->size, 4), layout->id, sizeof layout->id);
-}
-
-/* Encrypts a page, or the rest of a header, whose contents are in their place. */
-static void seal_box(const struct layout *layout, uint8_t *box, size_t length, const uint8_t *clear, uint64_t number,
-    const uint8_t *npub)
-{
-    size_t n = layout->n;
-    uint8_t ad[CLEAR + 8];
-
-    memcpy(ad, clear, CLEAR);
-    write_number(ad + CLEAR, number, 8);
-    memcpy(box, npub, n);
-    HOLDS(hunkravy_encrypt_in_place(layout->variant, box + n, length - n - TAG, ad, sizeof ad, npub, n, layout->k, n,
-              box + length - TAG, TAG) == HUNKRAVY_OK);
-}
-
-/* The bytes of a header, up to the zeros after it. */
-static size_t header_bytes(const struct layout *layout)
-{
-    return CLEAR + layout->n + 16 + TAG;
-}
-
-static void write_header_block(const struct layout *layout, uint8_t *header_block, const uint8_t *clear,
-    uint64_t counter, uint64_t contentslen, const uint8_t *npub)
-{
-    memset(header_block, 0, BLOCK);
-    memcpy(header_block, clear, CLEAR);
-    write_number(write_number(header_block + CLEAR + layout->n, counter, 8), contentslen, 8);
-    seal_box(layout, header_block + CLEAR, header_bytes(layout) - CLEAR, clear, UINT64_MAX, npub);
-}
-
 /* ---- Pages */
 
 /* These bytes are refused as page `number`, and erased. */
@@ -125,22 +82,17 @@ static void check_page(const struct variant *variant, uint32_t size, uint64_t nu
     static uint8_t contents[HUNKRAVY_PAGE_MAX_SIZE];
     const struct layout layout = layout_of(variant, size);
     size_t length = layout.n + size + TAG;
-    uint8_t *page = filled(length, 0x55), *expected = filled(length, 0x55);
-    uint8_t npub[32], clear[CLEAR];
+    uint8_t *page = filled(length, 0x55), npub[32], tag[TAG];
 
     fill(npub, sizeof npub);
     fill(contents, size);
     memcpy(page + layout.n, contents, size);
-    memcpy(expected + layout.n, contents, size);
-    write_clear(clear, &layout);
-    seal_box(&layout, expected, length, clear, number, npub);
-    HOLDS(seal_page(&layout, page, length, number, npub) == HUNKRAVY_OK && memcmp(page, expected, length) == 0);
+    HOLDS(seal_page(&layout, page, length, number, npub) == HUNKRAVY_OK);
+    memcpy(tag, page + length - TAG, TAG);
     check_others(&layout, number, page, length);
     HOLDS(open_page(&layout, page, length, number) == HUNKRAVY_OK && memcmp(page, npub, layout.n) == 0);
-    HOLDS(memcmp(page + layout.n, contents, size) == 0);
-    HOLDS(memcmp(page + length - TAG, expected + length - TAG, TAG) == 0);
+    HOLDS(memcmp(page + layout.n, contents, size) == 0 && memcmp(page + length - TAG, tag, TAG) == 0);
     free(page);
-    free(expected);
 }
 
 /* ---- Headers */
@@ -169,26 +121,14 @@ static void check_has_header(const struct layout *layout, const uint8_t *block, 
     HOLDS(size == layout->size && memcmp(id, layout->id, sizeof id) == 0 && count == counter && length == contentslen);
 }
 
-/* A header that no call writes: of another length of the contents, page size or variant. */
-static void check_wrong_header(const struct layout *layout, const uint8_t *clear, uint64_t contentslen)
-{
-    uint8_t block[BLOCK];
-
-    write_header_block(layout, block, clear, 4, contentslen, layout->k);
-    check_no_header(layout, layout->k, block);
-}
-
 static void check_header(const struct variant *variant, uint32_t size, uint64_t counter, uint64_t contentslen)
 {
     const struct layout layout = layout_of(variant, size);
-    size_t length = header_bytes(&layout);
-    uint8_t *block = filled(BLOCK + 1, 0x55), expected[BLOCK], clear[CLEAR], npub[32], k[32];
+    size_t length = 33 + layout.n + 16 + TAG;
+    uint8_t *block = filled(BLOCK + 1, 0x55), expected[BLOCK], npub[32], k[32];
 
     fill(npub, sizeof npub);
-    write_clear(clear, &layout);
-    write_header_block(&layout, expected, clear, counter, contentslen, npub);
-    HOLDS(seal_header(&layout, block, counter, contentslen, npub) == HUNKRAVY_OK);
-    HOLDS(memcmp(block, expected, BLOCK) == 0 && block[BLOCK] == 0x55);
+    HOLDS(seal_header(&layout, block, counter, contentslen, npub) == HUNKRAVY_OK && block[BLOCK] == 0x55);
     memcpy(k, layout.k, sizeof k);
     change_a_bit(k, layout.n);
     check_no_header(&layout, k, block);
@@ -264,16 +204,8 @@ static void check_sizes(const struct variant *variant)
     static const uint32_t wrong[] = {0, 1, 255, 65537, UINT32_MAX};
     const struct layout layout = layout_of(variant, 256);
     size_t more = layout.n + TAG;
-    uint8_t clear[CLEAR];
 
-    write_clear(clear, &layout);
-    check_wrong_header(&layout, clear, MOST_CONTENTS + 1);
-    clear[4]++;
-    check_wrong_header(&layout, clear, 0);
-    write_clear(clear, &layout);
     for (size_t i = 0; i < COUNT(wrong); i++) {
-        write_number(clear + 5, wrong[i], 4);
-        check_wrong_header(&layout, clear, 0);
         check_header_refused(variant, wrong[i], UINT64_MAX, HUNKRAVY_WRONG_PAGE_SIZE);
         HOLDS(hunkravy_page_place(layout.variant, wrong[i], 0) == UINT64_MAX);
     }

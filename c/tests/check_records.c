@@ -1,7 +1,7 @@
 /*
- * The calls on record streams: the stored lines, changed and exchanged records, positions, streams
- * that have ended or are of another role, and the limits. Its parameter is the folder of the stored
- * lines. It ends with status 0 only if every result is right.
+ * The calls on record streams: the stored lines that seal, changed and exchanged records, positions, streams that have ended
+ * or are of another role, and the limits. Damaged streams are in testkit/corpus. Its parameter is the folder of the stored
+ * lines.
  */
 #include "check.h"
 
@@ -137,41 +137,13 @@ static void check_sealrec(const struct line *line)
     HOLDS(at == stream->length && is_zeros(&sealer) && is_zeros(&opener));
 }
 
-/* The stream of the line has the messages of its answer, or is refused as its answer says. */
-static void check_openrec(const struct line *line)
-{
-    static struct bytes found;
-    const struct keys keys = keys_of(line);
-    const struct bytes *stream = &line->text;
-    hunkravy_record_stream st;
-    char fault[32];
-    int code;
-
-    if (stream->length < HEADER) {
-        return;
-    }
-    code = begin_open(&st, &keys, stream->at);
-    /* The line program opens version 1 too. */
-    if (memcmp(stream->at, AGR2, HEADER) != 0) {
-        HOLDS(code == HUNKRAVY_UNKNOWN_HEADER && is_zeros(&st));
-        return;
-    }
-    HOLDS(code == HUNKRAVY_OK);
-    found.length = found.chunk_count = 0;
-    open_records(&st, stream->at + HEADER, stream->length - HEADER, &found, fault);
-    if (line->refusal != NULL) {
-        HOLDS(strcmp(strcmp(fault, "too-long") == 0 ? "too long" : fault, line->refusal + strlen("refused ")) == 0);
-    } else {
-        HOLDS(fault[0] == '\0' && is_zeros(&st) && are_same_chunks(&found, &line->answer[0]));
-    }
-}
+static int sealed;
 
 static void check_line(const struct line *line)
 {
     if (is_command(line, "sealrec")) {
         check_sealrec(line);
-    } else {
-        check_openrec(line);
+        sealed++;
     }
 }
 
@@ -314,15 +286,15 @@ int main(int count, char **arguments)
 {
     static const uint8_t bytes[HUNKRAVY_RECORD_KEY_BYTES] = "a key, a prefix and a context";
     static const struct keys keys = {bytes, bytes, bytes, 9};
-    size_t lines;
 
     HOLDS(count == 2);
-    lines =
-        for_each_line(arguments[1], "records", check_line) + for_each_line(arguments[1], "record-tables", check_line);
+    for_each_line(arguments[1], "records", check_line);
+    for_each_line(arguments[1], "record-tables", check_line);
+    HOLDS(sealed > 50);
     check_states(&keys);
     check_places(&keys);
     check_lengths(&keys);
     check_longest(&keys);
-    printf("hunkravy.h on record streams: %lu stored lines, %lu checks, all right\n", (unsigned long)lines, checks);
+    printf("hunkravy.h on record streams: %d stored lines, %lu checks, all right\n", sealed, checks);
     return EXIT_SUCCESS;
 }

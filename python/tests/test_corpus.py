@@ -34,8 +34,15 @@ def opened_records(case: Case) -> list[bytes] | str:
     file = io.BytesIO(joined(case["stream"]))
     try:
         opener = RecordOpener(joined(case["key"]), joined(case["prefix"]), joined(case["context"]), file.read(4))
+    except RecordError as error:
+        return named(error.cause, error.record)
+    try:
         return read(opener, file)
     except RecordError as error:
+        for call in (lambda: opener.open(bytes(37)), lambda: opener.record_length(bytes(5)), opener.finish):
+            with unittest.TestCase().assertRaises(RecordError) as again:
+                call()
+            assert again.exception.args == error.args, "it stays"
         return named(error.cause, error.record)
 
 

@@ -26,7 +26,7 @@ from typing import Any, Optional
 from unittest import mock
 
 from hunkravy import Aegis128L, Aegis256, RandomAccessError, RandomAccessFile, _native, _random_access
-from processes import returns_in_a_fork
+from processes import repeated, returns_in_a_fork
 
 KEY = bytes(range(32))
 TABLE = pathlib.Path(__file__).parents[2] / "testkit" / "batches.txt"
@@ -367,10 +367,9 @@ class Files(unittest.TestCase):
 
     def test_forks_while_another_thread_undoes(self) -> None:
         def undo() -> None:
-            while not done.is_set():
-                with contextlib.suppress(KeyError), file.batch():
-                    file.write_at(0, bytes(1 << 20))
-                    raise KeyError
+            with file.batch():
+                file.write_at(0, bytes(1 << 20))
+                raise KeyError
 
         def read() -> None:
             while True:
@@ -381,49 +380,28 @@ class Files(unittest.TestCase):
             threading.Thread(target=read, daemon=True).start()
             file.close()
 
-        done = threading.Event()
-        file = RandomAccessFile.create(self.path, KEY, check_same_thread=False, page_size=PAGE)
-        file.write_at(0, bytes(1 << 20))
-        thread = threading.Thread(target=undo)
-        thread.start()
-        for turn in range(40):
-            self.assertTrue(returns_in_a_fork(close))
-        done.set()
-        thread.join()
-        file.close()
+        with RandomAccessFile.create(self.path, KEY, check_same_thread=False, page_size=PAGE) as file:
+            file.write_at(0, bytes(1 << 20))
+            with repeated(undo):
+                for _ in range(40):
+                    self.assertTrue(returns_in_a_fork(close))
 
     def test_blocks_that_end_in_a_forked_process(self) -> None:
         """Their exception goes on, whatever a thread of the other process was doing."""
-
-        def read() -> None:
-            while not done.is_set():
-                file.read_at(0, 1 << 20)
 
         def end() -> None:
             for block in blocks:
                 block.__exit__(SystemExit, SystemExit(), None)
 
-        done = threading.Event()
-        file = RandomAccessFile.create(self.path, KEY, check_same_thread=False, page_size=PAGE)
-        file.write_at(0, bytes(1 << 20))
-        batch = file.batch()
-        batch.__enter__()
-        blocks: list[Any] = [file.open_stream(), batch, file.open_stream(), file]
-        thread = threading.Thread(target=read)
-        thread.start()
-        for turn in range(20):
-            self.assertTrue(returns_in_a_fork(end))
-        done.set()
-        thread.join()
-        batch.__exit__(None, None, None)
-        file.close()
+        with RandomAccessFile.create(self.path, KEY, check_same_thread=False, page_size=PAGE) as file:
+            file.write_at(0, bytes(1 << 20))
+            batch = file.batch()
+            blocks: list[Any] = [file.open_stream(), batch, file.open_stream(), file]
+            with batch, repeated(lambda: file.read_at(0, 1 << 20)):
+                for _ in range(20):
+                    self.assertTrue(returns_in_a_fork(end))
 
     def test_several_threads_in_one_object(self) -> None:
-        def flush() -> None:
-            while not done.is_set():
-                with contextlib.suppress(RuntimeError):
-                    stream.flush()
-
         def enter(batch: Any) -> bool:
             try:
                 batch.__enter__()
@@ -431,19 +409,13 @@ class Files(unittest.TestCase):
                 return False
             return True
 
-        done = threading.Event()
         with RandomAccessFile.create(self.path, KEY, check_same_thread=False) as file:
-            stream = file.open_stream()
-            with concurrent.futures.ThreadPoolExecutor() as threads:
-                flushed = threads.submit(flush)
-                for turn in range(300):
+            with concurrent.futures.ThreadPoolExecutor() as threads, repeated(file.open_stream().flush):
+                for _ in range(300):
                     batch = file.batch()
                     self.assertEqual(sorted(threads.map(enter, [batch] * 2)), [False, True])
                     file.discard()
                     self.assertRaises(RuntimeError, batch.__exit__, None, None, None)
-                done.set()
-                flushed.result()
-            self.assertRaisesRegex(TypeError, "batch", type(batch), b"no file" * 10)
 
     def test_a_batch_that_several_threads_end(self) -> None:
         """The file counts its batches, whichever thread ends one."""
@@ -471,16 +443,19 @@ class Files(unittest.TestCase):
                     self.assertEqual(file.read_at(0, 2), b"%2d" % turn)
 
     def test_two_threads_that_close(self) -> None:
-        """The second one returns after the commit of the first."""
-        file = RandomAccessFile.create(self.path, KEY, check_same_thread=False)
-        file.write_at(0, bytes(8 << 20))
-        with concurrent.futures.ThreadPoolExecutor(1) as other:
-            closed = other.submit(file.close)
-            while not file.closed:
-                time.sleep(0.001)
-            file.close()
-            self.assertEqual(len(contents(self.path)), 8 << 20)
-            self.assertIsNone(closed.result(20))
+        """The second one returns after the commit of the first, and so does the close of a stream."""
+        RandomAccessFile.create(self.path, KEY).close()
+        for size in (8 << 20, 9 << 20):
+            file = RandomAccessFile(self.path, KEY, check_same_thread=False)
+            file.write_at(0, bytes(size))
+            second = file if size == 8 << 20 else file.open_stream()
+            with concurrent.futures.ThreadPoolExecutor(1) as other:
+                closed = other.submit(file.close)
+                while not file.closed:
+                    time.sleep(0.001)
+                second.close()
+                self.assertEqual(len(contents(self.path)), size)
+                self.assertIsNone(closed.result(20))
 
     def test_a_batch_that_ends_after_one_that_failed(self) -> None:
         def change(place: int) -> Generator[None, None, None]:

@@ -1,4 +1,4 @@
-"""Record streams: what they give back, at each position, and each damaged stream that the tests of the tool read too."""
+"""Record streams: what they give back, and at each position. test_corpus.py has damaged streams."""
 
 import array
 import concurrent.futures
@@ -7,7 +7,6 @@ import unittest
 from typing import Any, Callable
 from unittest import mock
 
-import test_files
 from hunkravy import RecordError, RecordOpener, RecordSealer
 
 KEY, PREFIX, CONTEXT = bytes(range(32)), bytes(range(24)), b"a context"
@@ -59,39 +58,6 @@ class Streams(unittest.TestCase):
                 RecordOpener(key, prefix, context, header).open(record)
             self.assertEqual((raised.exception.cause, raised.exception.record), ("damaged", 0))
         self.assertEqual(len({RecordSealer.generate_prefix() for _ in range(64)}), 64)
-
-    def test_each_damaged_stream(self) -> None:
-        """Its fault is that of the sealed file, and stays."""
-        count = 0
-        for name, data, key, cause, verified in test_files.damaged_files():
-            if len(data) < 28:
-                continue
-            with self.subTest(name):
-                file, found = io.BytesIO(data[28:]), b""
-                try:
-                    opener = RecordOpener(key, data[:24], b"hunkravy v1", data[24:28])
-                    while not opener.has_ended:
-                        head = file.read(5)
-                        found += opener.open(head + file.read(opener.record_length(head) - 5))
-                    opener.finish(file.read())
-                    said = "none"
-                except RecordError as error:
-                    said = f"damaged {error.record}" if error.cause == "damaged" else error.cause
-                    if said != "header":
-                        self.assert_stays(opener, error)
-                self.assertEqual((said, len(found)), (cause, verified))
-                self.assertTrue(test_files.Damaged.contents.startswith(found) or found == b"xyz")
-            count += 1
-        self.assertGreater(count, 100)
-
-    def assert_stays(self, opener: RecordOpener, error: RecordError) -> None:
-        calls: list[Callable[[], object]] = [
-            lambda: opener.open(bytes(37)), lambda: opener.record_length(bytes(5)), opener.finish,
-        ]
-        for call in calls:
-            with self.assertRaises(RecordError) as again:
-                call()
-            self.assertEqual(again.exception.args, error.args)
 
     def test_an_exception_of_a_signal_handler(self) -> None:
         """No other record is taken for the one in which it came."""

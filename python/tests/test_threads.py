@@ -13,8 +13,8 @@ import time
 import unittest
 from typing import Any, Callable, Optional
 
-from hunkravy import Aegis128L, Aegis256, Aegis256Mac, InvalidTag, RecordOpener, SealedReader, SealedWriter
-from processes import returns_in_a_fork
+from hunkravy import Aegis256, Aegis256Mac, InvalidTag, RecordOpener, SealedReader, SealedWriter
+from processes import repeated, returns_in_a_fork
 
 # Zeros that take no memory, and that the library works on for a quarter of a second or more.
 ZEROS = mmap.mmap(-1, 1 << 28, flags=mmap.MAP_PRIVATE | mmap.MAP_ANONYMOUS)
@@ -47,17 +47,6 @@ class Work:
 
 
 class Threads(unittest.TestCase):
-    def test_one_cipher(self) -> None:
-        cipher = Aegis128L(bytes(16))
-
-        def round_trip(number: int) -> bool:
-            message = random.Random(number).randbytes(1000 * number)
-            nonce = number.to_bytes(16, "little")
-            return cipher.decrypt(nonce, cipher.encrypt(nonce, message)) == message
-
-        with concurrent.futures.ThreadPoolExecutor(8) as threads:
-            self.assertTrue(all(threads.map(round_trip, range(200))))
-
     def test_one_mac(self) -> None:
         chunk = bytes(10_000)
         mac = Aegis256Mac(bytes(32))
@@ -119,12 +108,11 @@ class Threads(unittest.TestCase):
 
     def test_short_work(self) -> None:
         """From 4 KiB on other threads may run, though none asks for that here."""
-        mac, counts, done = Aegis256Mac(bytes(32)), [0], threading.Event()
+        mac, counts = Aegis256Mac(bytes(32)), [0]
 
         def count() -> None:
-            while not done.is_set():
-                counts[0] += 1
-                time.sleep(0)
+            counts[0] += 1
+            time.sleep(0)
 
         def runs_beside(length: int) -> bool:
             data, before = bytes(length), counts[0]
@@ -133,16 +121,13 @@ class Threads(unittest.TestCase):
             return counts[0] != before
 
         interval = sys.getswitchinterval()
-        thread = threading.Thread(target=count)
         try:
             sys.setswitchinterval(1000)
-            thread.start()
-            self.assertFalse(runs_beside(4095))
-            self.assertTrue(any(runs_beside(4096) for _ in range(50)))
+            with repeated(count):
+                self.assertFalse(runs_beside(4095))
+                self.assertTrue(any(runs_beside(4096) for _ in range(50)))
         finally:
             sys.setswitchinterval(interval)
-            done.set()
-            thread.join()
 
     def test_each_method_waits_for_another_thread(self) -> None:
         mac, cipher = Aegis256Mac(bytes(32)), Aegis256(bytes(32))
@@ -159,16 +144,6 @@ class Threads(unittest.TestCase):
             encryptor.finalize()
             returned = time.monotonic()
         self.assertGreater(returned, (working.begun + working.ended) / 2)
-
-    def test_a_copy_waits_for_no_other(self) -> None:
-        """It has a lock of its own."""
-        mac = Aegis256Mac(bytes(32), b"the input")
-        other = mac.copy()
-        with Work(lambda: mac.update(ZEROS)) as working:
-            digest = other.digest()
-            returned = time.monotonic()
-        self.assertLess(returned, working.ended)
-        self.assertEqual(digest, Aegis256Mac(bytes(32), b"the input").digest())
 
     def test_a_fork_while_another_thread_has_a_turn(self) -> None:
         """The forked process can close the object. Its other methods raise an error."""
@@ -269,23 +244,16 @@ class Threads(unittest.TestCase):
         zeros, ones = bytes(1 << 20), b"\1" * (1 << 20)
         message = bytearray(zeros)
         expected = {cipher.encrypt(nonce, zeros), cipher.encrypt(nonce, ones)}
-        done = threading.Event()
 
         def change() -> None:
-            while not done.is_set():
-                message[:] = ones
-                message[:] = zeros
+            message[:] = ones
+            message[:] = zeros
 
-        thread = threading.Thread(target=change)
-        thread.start()
-        try:
+        with repeated(change):
             for _ in range(30):
                 self.assertIn(cipher.encrypt(nonce, message), expected)
                 encryptor = cipher.encryptor(nonce)
                 self.assertIn(encryptor.update(message) + encryptor.finalize(), expected)
-        finally:
-            done.set()
-            thread.join()
 
 
 class AtTheEnd(unittest.TestCase):

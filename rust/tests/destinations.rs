@@ -39,7 +39,6 @@ in_each_variant! {
     a_dropped_decryptor_leaves_zeros
     decrypted_chunks_are_authentic_or_zeros
     a_chunk_without_room_changes_nothing
-    a_long_message_is_the_same_in_chunks
     a_ciphertext_of_another_length_panics
 }
 
@@ -93,21 +92,6 @@ mod checks {
         assert_eq!(decryptor.update(&[0]), refused);
         decryptor.update(&[]).unwrap();
         assert_eq!(decryptor.finalize(&tag).unwrap(), message);
-    }
-
-    pub fn a_long_message_is_the_same_in_chunks<V: Variant>() {
-        let mut ciphertext = vec![8; 1 << 20];
-        let tag = cipher::<V>().encrypt_in_place(&mut ciphertext, AD);
-        for length in [16_384, 100_001] {
-            let mut chunks = vec![8; 1 << 20];
-            let mut encryptor = cipher::<V>().encryptor(AD);
-            for chunk in chunks.chunks_mut(length) {
-                encryptor.update_in_place(chunk);
-            }
-            assert!(encryptor.finalize() == tag && chunks == ciphertext);
-        }
-        let opened = cipher::<V>().decrypt_in_place(&mut ciphertext, &tag, AD);
-        assert!(opened == Ok(()) && ciphertext == [8; 1 << 20]);
     }
 
     pub fn a_ciphertext_of_another_length_panics<V: Variant>() {

@@ -45,32 +45,23 @@ pub fn a_probe(path: &std::path::Path) -> String {
 pub fn a_storage(rng: impl aegis::raf::RafRng) {
     use aegis::raf::{Aegis256X2, RafBuilder, RafIo};
 
-    struct Bytes(Vec<u8>);
+    struct Bytes;
 
     impl RafIo for Bytes {
-        fn read_at(&mut self, buf: &mut [u8], offset: u64) -> std::io::Result<()> {
-            let bytes = self.0.get(offset as usize..offset as usize + buf.len());
-            buf.copy_from_slice(bytes.ok_or(std::io::ErrorKind::UnexpectedEof)?);
+        fn read_at(&mut self, _buf: &mut [u8], _offset: u64) -> std::io::Result<()> {
             Ok(())
         }
-        fn write_at(&mut self, buf: &[u8], offset: u64) -> std::io::Result<()> {
-            let end = offset as usize + buf.len();
-            self.0.resize(self.0.len().max(end), 0);
-            self.0[offset as usize..end].copy_from_slice(buf);
+        fn write_at(&mut self, _buf: &[u8], _offset: u64) -> std::io::Result<()> {
             Ok(())
         }
         fn get_size(&mut self) -> std::io::Result<u64> {
-            Ok(self.0.len() as u64)
+            Ok(0)
         }
-        fn set_size(&mut self, size: u64) -> std::io::Result<()> {
-            self.0.resize(size as usize, 0);
+        fn set_size(&mut self, _size: u64) -> std::io::Result<()> {
             Ok(())
         }
     }
 
-    let builder = RafBuilder::<Aegis256X2>::with_rng(rng);
-    let mut f = builder.create(Bytes(Vec::new()), &[1; 32]).unwrap();
-    f.write(b"text", 3).unwrap();
+    let mut f = RafBuilder::<Aegis256X2>::with_rng(rng).create(Bytes, &[1; 32]).unwrap();
     f.sync().unwrap();
-    assert_eq!(f.size(), 7);
 }
