@@ -130,10 +130,7 @@ if [ -f "$out/aarch64/libhunkravy.a" ]; then archive aarch64; fi
 if command -v dpkg-deb > /dev/null; then
     ARCHITECTURE=amd64 CRATE=hunkravy
     install_to "$work/hunkravy" install-tool PREFIX=/usr CPU=both ZSH_COMPLETIONS=/usr/share/zsh/vendor-completions
-    strip "$work"/hunkravy/usr/lib/hunkravy/*/hunkravy
-    # lintian takes a program that needs no library for a library that lacks them.
-    mkdir -p "$work/hunkravy/usr/share/lintian/overrides"
-    echo 'hunkravy: shared-library-lacks-prerequisites [usr/bin/hunkravy]' > "$work/hunkravy/usr/share/lintian/overrides/hunkravy"
+    strip "$work/hunkravy/usr/bin/hunkravy"
     package hunkravy utils 'libc6 (>= 2.34)' 'file encryption with AEGIS-256' \
         $'Encrypts files and pipes under a random key file.\n A file that was changed is rejected.'
     libraries amd64 x86_64-linux-gnu x86_64-unknown-linux-gnu
