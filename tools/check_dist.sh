@@ -201,9 +201,13 @@ for package in "$dist"/*.deb; do
         fail "$package: its changelog is that of another version"
     (cd "$work/one" && md5sum --strict --quiet -c DEBIAN/md5sums && diff <(find usr -type f | sort) <(cut -c 35- DEBIAN/md5sums | sort)) ||
         fail "other sums in $package"
+    name=$(dpkg-deb -f "$package" Package)
+    [ "$(ls "$work/one/usr/share/doc")" = "$name" ] || fail "$package has pages in a folder that stays when it is removed"
 done
 [ "$(dpkg-deb -I "$dist/libhunkravy0_${version}_amd64.deb" shlibs)" = "libhunkravy 0 libhunkravy0 (>= $version)" ] ||
     fail 'programs depend on another version of the library'
+dpkg-deb -I "$dist/libhunkravy0_${version}_amd64.deb" symbols | sed -n "s/^ \(hunkravy_.*\)@HUNKRAVY_0 $version\$/\1/p" |
+    diff <(grep -o 'hunkravy_[a-z0-9_]* (' c/abi.txt | sed 's/ (//' | LC_ALL=C sort -u) - || fail 'the package lists other symbols than the headers'
 python3 - "$dist"/*.whl << 'END' || fail 'a wheel has other sums or another tag than its name'
 import base64, csv, hashlib, sys, zipfile
 for name in sys.argv[1:]:
@@ -243,7 +247,8 @@ use() {
 }
 use make --no-print-directory -C "$root" check-install "OUT=$out" "PREFIX=$folder"
 libraries=$system/lib/x86_64-linux-gnu
-use PKG_CONFIG_SYSROOT_DIR="$work/system" make --no-print-directory -C "$root" check-install "OUT=$out" "PREFIX=$system" "LIBRARIES=$libraries"
+use PKG_CONFIG_SYSROOT_DIR="$work/system" make --no-print-directory -C "$root" check-install "OUT=$out" "PREFIX=$system" "LIBRARIES=$libraries" \
+    "EXAMPLES_FOLDER=$system/share/doc/libhunkravy-dev/examples"
 options=$(use PKG_CONFIG_PATH="$libraries/pkgconfig" pkg-config --cflags --libs hunkravy)
 [ "${options% }" = -lhunkravy ] || fail "pkg-config prints $options for the installed package"
 if command -v cargo > /dev/null; then
