@@ -87,7 +87,8 @@ check-c: $(if $(filter aarch64,$(FOLDER)),check-c-aarch64 check-sanitized,check-
 	check-sanitized check-shared check-level check-c++ check-sodium check-rebuilt)
 check-sanitized: export ASAN_OPTIONS = detect_leaks=$(if $(filter aarch64,$(FOLDER)),0,1)
 
-# Each header compiles alone, by each standard of C and C++, and without a warning; and so does what is compiled here.
+# Each header compiles alone, by each standard of C and C++, and without a warning; and so does what is compiled here. The oldest
+# standards are without -Wpedantic, which libsodium's headers do not pass either.
 CLANG = $(shell command -v clang)
 STANDARDS = c99 c11 c17 c2x $(if $(shell command -v g++),c++11 c++14 c++17 c++20)
 
@@ -100,11 +101,16 @@ check-header:
 				$$compiler -std=$$standard $(C_FLAGS) -fsyntax-only -x $$language - || exit 1; \
 		done; \
 	done; done
+	for compiler in $(CC) $(CLANG); do for language in c $(if $(findstring c++,$(STANDARDS)),c++); do \
+		{ printf '#include "%s"\n' $(HEADERS); echo 'void f(void); void f(void) { sodium_init(); }'; } | \
+			$$compiler -std=$$(case $$language in c) echo c89 ;; *) echo c++98 ;; esac) -Wall -Wextra -Werror -Ic/include \
+				-fsyntax-only -x $$language - || exit 1; \
+	done; done
 	uses() { \
 		printf '#include "hunkravy_sodium.h"\nvoid f(void);\nvoid f(void) { %s; }\n' "$$1" | \
 			$$compiler $(C_FLAGS) -c -o /dev/null -x c -; \
 	} && for compiler in $(CC) $(CLANG); do \
-		for call in 'hunkravy_stream(0, 0, 0, 0, 0, 0, 0)' 'sodium_init()' \
+		for call in 'hunkravy_stream(0, 0, 0, 0, 0, 0, 0)' \
 			'crypto_aead_aegis256_decrypt(0, 0, 0, 0, 0, 0, 0, 0, 0)'; do \
 			uses "int code = $$call; (void)code" && ! uses "$$call" 2> /dev/null || exit 1; \
 		done; \

@@ -4,7 +4,7 @@
 # Writes the archives, the packages and their sums to out/dist. If the tools for ARM are there, its archive too.
 HAS_ARM = $(shell command -v aarch64-linux-gnu-gcc)
 
-dist: $(OUT)/both/libhunkravy.a $(OUT)/both/$(SONAME) $(LEVELS:%=$(OUT)/%/hunkravy) $(WHEEL) \
+dist: $(OUT)/both/libhunkravy.a $(OUT)/both/$(SONAME) $(OUT)/both/hunkravy $(WHEEL) \
 		$(if $(HAS_ARM),$(OUT)/aarch64/libhunkravy.a $(OUT)/aarch64/$(SONAME) $(WHEEL_aarch64))
 	tools/pack.sh $(VERSION) $(OUT)
 

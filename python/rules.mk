@@ -29,6 +29,6 @@ test-python: python-package
 	cd python/tests && PYTHONPATH="$(CURDIR)/$(OUT)/python" python3 -B -m unittest
 
 # The tests of the package as the wheel has it, with files of the tool: see tools/check_python.sh.
-check-python: export HUNKRAVY_TOOL = $(CURDIR)/$(OUT)/$(lastword $(TOOL_LEVELS))/hunkravy
-check-python: python-package $(OUT)/$(lastword $(TOOL_LEVELS))/hunkravy
+check-python: export HUNKRAVY_TOOL = $(CURDIR)/$(TOOL)
+check-python: python-package $(TOOL)
 	tools/check_python.sh "$(CURDIR)/$(OUT)/python" "$(CURDIR)/$(OUT)/both/libhunkravy.a"

@@ -30,7 +30,7 @@ check-rust-%: $(OUT)/%/libhunkravy.a
 	$(call CARGO,$*) test --offline --test raf --test sealed -- formats records opened_in_memory
 
 # Whether the package and the file tool open each other's files.
-check-rust-tool: $(OUT)/$(lastword $(TOOL_LEVELS))/hunkravy $(LIBRARY)
+check-rust-tool: $(TOOL) $(LIBRARY)
 	export HUNKRAVY_TOOL="$(CURDIR)/$<"; $(call CARGO,$(FOLDER)) test --offline --test tool
 
 # Runs libFuzzer of clang for FUZZ_SECONDS on what reads files: rust/fuzz.rs, over the library with both levels. It keeps the

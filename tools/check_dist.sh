@@ -13,14 +13,14 @@ fail() {
     exit 1
 }
 
-# The same bytes, from a copy in a folder of another name.
+# The same bytes, from a copy in a folder of another name. There each file is newer than those that it was built from.
 copy=$work/another-name
 mkdir "$copy"
 tar --exclude=./.git --exclude="./$out/dist" --exclude='./crates/*/out' -cf - . | tar -C "$copy" -xf -
 epoch=$(revision_time)
 commit=$(revision)
 line=$(if python3 tools/proved.py check 2> /dev/null; then cat out/proved-line; fi)
-(cd "$copy" && touch -c "$out"/*/* && SOURCE_DATE_EPOCH=$epoch COMMIT=$commit GATE_LINE=$line tools/pack.sh "$version" "$out") |
+(cd "$copy" && touch -c "$out"/x86*/* && touch -c "$out"/[ab]*/* && SOURCE_DATE_EPOCH=$epoch COMMIT=$commit GATE_LINE=$line tools/pack.sh "$version" "$out") |
     diff "$dist/SHA256SUMS" -
 
 # The name of each file that tar lists, with a star if it is a program, or with the target of a link. All belong to root, and
@@ -58,7 +58,7 @@ listed() {
     done < dist/contents.txt
 }
 for_arm() {
-    listed | awk '/^== / { is_of_tool = /hunkravy_/ } !is_of_tool && !/^bin\/|lib\/hunkravy\/|share\/(bash|fish|man|zsh)|backup\.sh|^docs\/SEALED/' |
+    listed | awk '/^== / { is_of_tool = /hunkravy_/ } !is_of_tool && !/^bin\/|share\/(bash|fish|man|zsh)|backup\.sh|^docs\/SEALED/' |
         sed 's/x86_64/aarch64/g; s/amd64/arm64/g'
 }
 # Each line after the name of its package, in order.
@@ -148,7 +148,7 @@ glibc() {
     done
 }
 glibc 2.17 "$folder/lib/libhunkravy.so.0" "$work/site/hunkravy/_native.abi3.so"
-glibc 2.34 "$folder/lib/hunkravy/x86-64-v2/hunkravy"
+glibc 2.34 "$folder/bin/hunkravy"
 
 # What is compiled from C checks its stack and its copies, is bound before it runs, and begins each function with a landing pad.
 hardened() {
@@ -201,9 +201,13 @@ for package in "$dist"/*.deb; do
         fail "$package: its changelog is that of another version"
     (cd "$work/one" && md5sum --strict --quiet -c DEBIAN/md5sums && diff <(find usr -type f | sort) <(cut -c 35- DEBIAN/md5sums | sort)) ||
         fail "other sums in $package"
+    name=$(dpkg-deb -f "$package" Package)
+    [ "$(ls "$work/one/usr/share/doc")" = "$name" ] || fail "$package has pages in a folder that stays when it is removed"
 done
 [ "$(dpkg-deb -I "$dist/libhunkravy0_${version}_amd64.deb" shlibs)" = "libhunkravy 0 libhunkravy0 (>= $version)" ] ||
     fail 'programs depend on another version of the library'
+dpkg-deb -I "$dist/libhunkravy0_${version}_amd64.deb" symbols | sed -n "s/^ \(hunkravy_.*\)@HUNKRAVY_0 $version\$/\1/p" |
+    diff <(grep -o 'hunkravy_[a-z0-9_]* (' c/abi.txt | sed 's/ (//' | LC_ALL=C sort -u) - || fail 'the package lists other symbols than the headers'
 python3 - "$dist"/*.whl << 'END' || fail 'a wheel has other sums or another tag than its name'
 import base64, csv, hashlib, sys, zipfile
 for name in sys.argv[1:]:
@@ -217,13 +221,13 @@ for name in sys.argv[1:]:
     assert {row[0]: row[1:] for row in csv.reader(files[record].decode().splitlines())} == expected, name
 END
 
-# The tool is started through a program that needs nothing, and chooses between the two builds. make check-tool tests it.
-for program in "$folder/bin/hunkravy" "$work/system/usr/bin/hunkravy"; do
-    cmp "$program" "$out/start" || fail "$program is another program than $out/start"
-    if readelf -lW "$program" | grep INTERP; then fail "$program needs an interpreter"; fi
-    [ "$(stat -c %s "$program")" -lt 8192 ] || fail "$program has more than 8 KB"
+# The tool is one program, which is bound before it runs, and needs no file beside it. make check-tool tests its start.
+for program in "$folder/bin/hunkravy" "$system/bin/hunkravy"; do
+    [[ $(readelf -Whld "$program") =~ Type:\ +DYN.*GNU_RELRO.*' NOW' ]] || fail "$program can be bound later, or lies at a fixed address"
+    if readelf -lW "$program" | grep -E 'LOAD.* RWE |GNU_STACK.*E '; then fail "$program has a segment that is writable and executable"; fi
+    cp "$program" "$work/alone"
+    has <(env -i "$work/alone" --version) '^built for x86-64-v[23]$'
 done
-has <(env -i "$folder/bin/hunkravy" --version) '^built for x86-64-v[23]$'
 
 # Each shell has its own completions.
 while read -r page installed; do
@@ -243,7 +247,8 @@ use() {
 }
 use make --no-print-directory -C "$root" check-install "OUT=$out" "PREFIX=$folder"
 libraries=$system/lib/x86_64-linux-gnu
-use PKG_CONFIG_SYSROOT_DIR="$work/system" make --no-print-directory -C "$root" check-install "OUT=$out" "PREFIX=$system" "LIBRARIES=$libraries"
+use PKG_CONFIG_SYSROOT_DIR="$work/system" make --no-print-directory -C "$root" check-install "OUT=$out" "PREFIX=$system" "LIBRARIES=$libraries" \
+    "EXAMPLES_FOLDER=$system/share/doc/libhunkravy-dev/examples"
 options=$(use PKG_CONFIG_PATH="$libraries/pkgconfig" pkg-config --cflags --libs hunkravy)
 [ "${options% }" = -lhunkravy ] || fail "pkg-config prints $options for the installed package"
 if command -v cargo > /dev/null; then

@@ -106,14 +106,22 @@ END
     rm -r "$folder"
 }
 
+# The names that a shared library exports, as Debian lists them. A program that calls one needs this version or a later one.
+symbols() {
+    echo 'libhunkravy.so.0 libhunkravy0 #MINVER#'
+    readelf -W --dyn-syms "$1" | awk -v version="$version" 'sub(/@@/, "@", $8) && $7 != "UND" { print " " $8, version }' | sort
+}
+
 # libraries ARCHITECTURE TRIPLET TARGET: the packages of the library for a processor.
 libraries() {
     local library=usr/lib/$2
     ARCHITECTURE=$1 CRATE=aegis_c
-    install_to "$work/libhunkravy-dev" install PREFIX=/usr "LIBRARIES=/$library" "TARGET=$3"
+    install_to "$work/libhunkravy-dev" install PREFIX=/usr "LIBRARIES=/$library" "TARGET=$3" \
+        EXAMPLES_FOLDER=/usr/share/doc/libhunkravy-dev/examples
     mkdir -p "$work/libhunkravy0/$library" "$work/libhunkravy0/DEBIAN"
     mv "$work/libhunkravy-dev/$library"/libhunkravy.so.0* "$work/libhunkravy0/$library"
     echo "libhunkravy 0 libhunkravy0 (>= $version)" > "$work/libhunkravy0/DEBIAN/shlibs"
+    symbols "$work/libhunkravy0/$library/libhunkravy.so.0" > "$work/libhunkravy0/DEBIAN/symbols"
     echo 'activate-noawait ldconfig' > "$work/libhunkravy0/DEBIAN/triggers"
     # The page on C, which lies beside those that the headers name, and not in a folder beside theirs.
     python3 tools/ship_pages.py "$work/pages" c/README.md
@@ -130,10 +138,11 @@ if [ -f "$out/aarch64/libhunkravy.a" ]; then archive aarch64; fi
 if command -v dpkg-deb > /dev/null; then
     ARCHITECTURE=amd64 CRATE=hunkravy
     install_to "$work/hunkravy" install-tool PREFIX=/usr CPU=both ZSH_COMPLETIONS=/usr/share/zsh/vendor-completions
-    strip "$work"/hunkravy/usr/lib/hunkravy/*/hunkravy
-    # lintian takes a program that needs no library for a library that lacks them.
-    mkdir -p "$work/hunkravy/usr/share/lintian/overrides"
-    echo 'hunkravy: shared-library-lacks-prerequisites [usr/bin/hunkravy]' > "$work/hunkravy/usr/share/lintian/overrides/hunkravy"
+    strip "$work/hunkravy/usr/bin/hunkravy"
+    python3 tools/ship_pages.py "$work/pages" SECURITY.md
+    python3 tools/ship_pages.py "$work/pages" docs/SEALED-FILES.md
+    install -D -m 644 -t "$work/hunkravy/usr/share/doc/hunkravy" "$work"/pages/{SECURITY,docs/SEALED-FILES}.md
+    rm -r "$work/pages"
     package hunkravy utils 'libc6 (>= 2.34)' 'file encryption with AEGIS-256' \
         $'Encrypts files and pipes under a random key file.\n A file that was changed is rejected.'
     libraries amd64 x86_64-linux-gnu x86_64-unknown-linux-gnu

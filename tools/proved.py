@@ -4,7 +4,8 @@
 proved.py sources CRATE: prints the files that a crate and those below it are built from.
 proved.py check: passes if the sources and the libraries are still those of OUT/proved.
 proved.py run: runs `rt ci`. If it passed, OUT/proved has the sums of the sources and of the libraries that it made.
-proved.py build CRATE FILE [FLAG..]: proves a program or a static library, and builds it as FILE.
+proved.py build CRATE FILE [FLAG..]: proves a program or a static library, and builds it as FILE: the object of a program.
+proved.py link FILE OBJECT..: links a program from its objects, as `rt run` does.
 
 `build` calls rattle as `rt run` and `rt lib` do, with these flags, but over the libraries that `rt ci` has left in
 crates/*/out/rlib, so that it proves that crate alone: these have no stamp, and rt would prove them once more. If a source
@@ -123,23 +124,23 @@ def words(name, is_static):
 def build(name, file, *flags):
     """Proves a crate over what was proved, and builds it."""
     check()
-    is_static, file = name in listed()[1], os.path.abspath(file)
-    built, how = file if is_static else f"{file}.o", {"check": True, "stdin": subprocess.DEVNULL, "cwd": CRATES / name}
-    toolchain = ["--toolchain", f"{KIT}/toolchain"]
-    found = [*words(name, is_static), *flags, "--incremental", os.path.abspath(WORK / name), *toolchain, "--backend", "llvm"]
-    subprocess.run([f"{KIT}/bin/rattle", "build", *found, "-o", built], **how)
-    if not is_static:
-        found = ["--target", "x86_64-unknown-linux-gnu", *toolchain, "-o", file, built]
-        subprocess.run([f"{KIT}/bin/rattle-link", *found, f"{KIT}/c/libos_c.a", f"{KIT}/c/liblibc_c.a"], **how)
-        os.remove(built)
+    found = [*words(name, name in listed()[1]), *flags, "--incremental", os.path.abspath(WORK / name)]
+    found += ["--toolchain", f"{KIT}/toolchain", "--backend", "llvm", "-o", os.path.abspath(file)]
+    subprocess.run([f"{KIT}/bin/rattle", "build", *found], check=True, stdin=subprocess.DEVNULL, cwd=CRATES / name)
+
+
+def link(file, *objects):
+    """Links a program with the C of Rattle's libraries."""
+    found = ["--target", "x86_64-unknown-linux-gnu", "--toolchain", f"{KIT}/toolchain", "-o", file, *objects]
+    subprocess.run([f"{KIT}/bin/rattle-link", *found, f"{KIT}/c/libos_c.a", f"{KIT}/c/liblibc_c.a"], check=True)
 
 
 if __name__ == "__main__":
     command, *rest = sys.argv[1:]
-    if command in ("run", "build") and not RT:
+    if command in ("run", "build", "link") and not RT:
         sys.exit("rt is not installed")
     try:
-        result = {"sources": print_sources, "check": check, "run": run, "build": build}[command](*rest)
+        result = {"sources": print_sources, "check": check, "run": run, "build": build, "link": link}[command](*rest)
     except subprocess.CalledProcessError as error:
         result = error.returncode if error.returncode > 0 else 1
     sys.exit(result)

@@ -3,39 +3,38 @@
 
 # ---- The file tool
 
-# It is built for the best level that this machine has, for that of CPU, or for each if CPU is `both`.
-TOOL_LEVELS = $(if $(filter both,$(CPU)),$(LEVELS),$(or $(CPU),$(lastword $(RUNNABLE))))
+# It is built for the level that CPU names, or for both in one program, if both run here.
+TOOL = $(OUT)/$(or $(CPU),$(if $(filter 2,$(words $(RUNNABLE))),both,$(RUNNABLE)))/hunkravy
 TOOL_PAGES = crates/hunkravy/manual
 
 # The levels are built in one folder, so one after the other.
-$(OUT)/x86-64-v3/hunkravy: | $(if $(filter both,$(CPU))$(filter bench% %dist,$(MAKECMDGOALS)),$(OUT)/x86-64-v2/hunkravy)
+$(OUT)/x86-64-v3/hunkravy.o: | $(if $(filter %-v3,$(CPU)),,$(OUT)/x86-64-v2/hunkravy.o)
 
-$(OUT)/%/hunkravy: $(call sources,hunkravy) crates.txt
+$(OUT)/%/hunkravy.o: $(call sources,hunkravy) crates.txt
 	mkdir -p $(@D)
-	$(call build,hunkravy,--cpu=$*,rt run --cpu=$* -- --help > /dev/null,out/hunkravy)
+	$(call build,hunkravy,--cpu=$*,rt run --cpu=$* -- --help > /dev/null,out/hunkravy.o)
 
-# The program that starts the build for the processor's level. It calls the system itself, and no library.
-START_FLAGS = -std=gnu11 -Wall -Wextra -Os -ffreestanding -fno-tree-loop-distribute-patterns -fno-stack-protector \
-	-fcf-protection=none -fno-asynchronous-unwind-tables -fPIE -static-pie -nostdlib -s \
-	-Wl,--build-id=none,-z,noseparate-code,-z,noexecstack
+$(OUT)/%/hunkravy: $(OUT)/%/hunkravy.o
+	python3 tools/proved.py link $@ $<
 
-$(OUT)/start: dist/start.c c/levels/level.h tools/rules.mk | $(OUT)
-	$(CC) $(START_FLAGS) $< -o $@
+# The `main` of each build gets a name of its own, and that of dist/start.c calls the one for the processor's level.
+START_FLAGS = -std=c99 -Wall -Wextra -Wpedantic -Werror -O2 -fPIE -fstack-protector-strong -fcf-protection \
+	-DKIT="\"$$(rt version)\""
 
-# Installs the program hunkravy, its manual page, the example of a backup, and completions for shells. The program is a link to
-# the build for the level, or, if there are two, the one that starts the better one.
+$(OUT)/both/hunkravy: $(LEVELS:%=$(OUT)/%/hunkravy.o) dist/start.c c/levels/level.h tools/rules.mk
+	mkdir -p $(@D)
+	for level in v2 v3; do \
+		objcopy --redefine-sym main=main_$$level $(OUT)/x86-64-$$level/hunkravy.o $(@D)/main_$$level.o || exit 1; \
+	done
+	$(CC) $(START_FLAGS) -c dist/start.c -o $(@D)/start.o
+	python3 tools/proved.py link $@ $(@D)/start.o $(@D)/main_v2.o $(@D)/main_v3.o
+
+# Installs the program hunkravy, its manual page, the example of a backup, and completions for shells.
 ZSH_COMPLETIONS = $(PREFIX)/share/zsh/site-functions
 
-install-tool: $(TOOL_LEVELS:%=$(OUT)/%/hunkravy) $(if $(filter 2,$(words $(TOOL_LEVELS))),$(OUT)/start)
-	install -d "$(DESTDIR)$(PREFIX)/bin"
-	for level in $(TOOL_LEVELS); do \
-		install -D -m 755 $(OUT)/$$level/hunkravy "$(DESTDIR)$(PREFIX)/lib/hunkravy/$$level/hunkravy" && \
-		ln -sf ../lib/hunkravy/$$level/hunkravy "$(DESTDIR)$(PREFIX)/bin/hunkravy" && \
-		echo "hunkravy is built for $$level" || exit 1; \
-	done
-	if [ $(words $(TOOL_LEVELS)) = 2 ]; then \
-		rm "$(DESTDIR)$(PREFIX)/bin/hunkravy" && install -m 755 $(OUT)/start "$(DESTDIR)$(PREFIX)/bin/hunkravy"; \
-	fi
+install-tool: $(TOOL)
+	install -D -m 755 $(TOOL) "$(DESTDIR)$(PREFIX)/bin/hunkravy"
+	echo 'hunkravy is built for $(notdir $(patsubst %/,%,$(dir $(TOOL))))'
 	install -D -m 644 $(TOOL_PAGES)/man "$(DESTDIR)$(PREFIX)/share/man/man1/hunkravy.1"
 	install -D -m 644 dist/examples/backup.sh "$(DESTDIR)$(EXAMPLES_FOLDER)/backup.sh"
 	install -D -m 644 $(TOOL_PAGES)/bash "$(DESTDIR)$(PREFIX)/share/bash-completion/completions/hunkravy"
@@ -44,15 +43,14 @@ install-tool: $(TOOL_LEVELS:%=$(OUT)/%/hunkravy) $(if $(filter 2,$(words $(TOOL_
 
 # The tests of the program that need files, links, pipes, terminals, full devices, calls that fail and kills, which no proof
 # covers: a minute or two, and 300 MB of disk. Each file of them is a scene, and several run side by side.
-TOOL = $(OUT)/$(lastword $(TOOL_LEVELS))/hunkravy
 SCENES = $(notdir $(basename $(wildcard tools/check_tool/test_*.py)))
 
-check-tool: $(TOOL) $(OUT)/start
+check-tool: $(TOOL)
 	$(CC) -shared -fPIC -O1 tools/check_tool/calls.c -o $(OUT)/calls.so
 	$(MAKE) --no-print-directory --output-sync --jobs=$(or $(RT_JOBS),$(CHECKS)) $(SCENES:%=check-tool-%)
 
 check-tool-%:
-	cd tools/check_tool && TOOL="$(CURDIR)/$(TOOL)" START="$(CURDIR)/$(OUT)/start" CALLS_LIBRARY="$(CURDIR)/$(OUT)/calls.so" \
+	cd tools/check_tool && TOOL="$(CURDIR)/$(TOOL)" CALLS_LIBRARY="$(CURDIR)/$(OUT)/calls.so" \
 		VERSION=$(VERSION) SHELL=/bin/sh python3 -B scene.py $*
 
 # ---- Batches of writes

@@ -7,7 +7,7 @@
  * PKG_CONFIG_PATH to /some/where/lib/pkgconfig first, and LD_LIBRARY_PATH to /some/where/lib to run the program. If it
  * is in /usr/local, run ldconfig once. To link the static library use -l:libhunkravy.a in place of -lhunkravy, and
  * -Wl,--gc-sections, so that the program has only the functions that it calls. Examples are in
- * share/doc/hunkravy/examples.
+ * share/doc/hunkravy/examples, or of Debian's package in share/doc/libhunkravy-dev/examples.
  *
  * FUNCTIONS FOR
  *

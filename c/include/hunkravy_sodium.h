@@ -18,7 +18,7 @@
  *
  * - The functions use neither AES instructions nor look-up tables.
  * - An output must not overlap the key, the nonce, the associated data or, in the detached form, the tag.
- * - The functions are inline: there are no symbols with libsodium's names to link with. A source file includes either
+ * - The functions are inline, in C89 too: there are no symbols with libsodium's names to link with. A source file includes either
  *   this header or sodium.h; different files of one program may differ.
  * - Random bytes come from getrandom. There is no function to replace their source.
  */
@@ -41,13 +41,13 @@ extern "C" {
 #endif
 
 /* Does nothing, and returns 0. */
-HUNKRAVY_MUST_USE static inline int sodium_init(void)
+static __inline int sodium_init(void)
 {
     return 0;
 }
 
 /* Writes `size` random bytes to `buf`. Aborts the program if the system has none. */
-static inline void randombytes_buf(void *const buf, const size_t size)
+static __inline void randombytes_buf(void *const buf, const size_t size)
 {
     size_t done = 0;
     while (done < size) {
@@ -61,7 +61,7 @@ static inline void randombytes_buf(void *const buf, const size_t size)
 }
 
 /* Overwrites `len` bytes with zeros, even if nothing reads them afterwards. */
-static inline void sodium_memzero(void *const pnt, const size_t len)
+static __inline void sodium_memzero(void *const pnt, const size_t len)
 {
     hunkravy_wipe(pnt, len);
 }
@@ -73,7 +73,7 @@ static inline void sodium_memzero(void *const pnt, const size_t len)
  * Writes the ciphertext of the `mlen` bytes at `m` to `c`, and its tag of 32 bytes to `mac`. Sets `*maclen_p`
  * to 32. Returns 0. Aborts the program if the message or the associated data are too long.
  */
-static inline int hunkravy_sodium_encrypt_detached(uint32_t variant, unsigned char *c, unsigned char *mac,
+static __inline int hunkravy_sodium_encrypt_detached(uint32_t variant, unsigned char *c, unsigned char *mac,
     unsigned long long *maclen_p, const unsigned char *m, unsigned long long mlen, const unsigned char *ad,
     unsigned long long adlen, const unsigned char *npub, const unsigned char *k)
 {
@@ -94,7 +94,7 @@ static inline int hunkravy_sodium_encrypt_detached(uint32_t variant, unsigned ch
  * writes zeros to the `clen` bytes at `m`, or nothing if `clen` or `adlen` is more than 2^61 - 1. If `m` is null, it
  * only verifies.
  */
-HUNKRAVY_MUST_USE static inline int hunkravy_sodium_decrypt_detached(uint32_t variant, unsigned char *m,
+HUNKRAVY_MUST_USE static __inline int hunkravy_sodium_decrypt_detached(uint32_t variant, unsigned char *m,
     const unsigned char *c, unsigned long long clen, const unsigned char *mac, const unsigned char *ad,
     unsigned long long adlen, const unsigned char *npub, const unsigned char *k)
 {
@@ -121,7 +121,7 @@ HUNKRAVY_MUST_USE static inline int hunkravy_sodium_decrypt_detached(uint32_t va
  * Writes the ciphertext of the `mlen` bytes at `m` and then its tag to `c`. Sets `*clen_p` to `mlen + 32`. Returns 0.
  * Aborts the program if the message or the associated data are too long.
  */
-static inline int hunkravy_sodium_encrypt(uint32_t variant, unsigned char *c, unsigned long long *clen_p,
+static __inline int hunkravy_sodium_encrypt(uint32_t variant, unsigned char *c, unsigned long long *clen_p,
     const unsigned char *m, unsigned long long mlen, const unsigned char *ad, unsigned long long adlen,
     const unsigned char *npub, const unsigned char *k)
 {
@@ -139,7 +139,7 @@ static inline int hunkravy_sodium_encrypt(uint32_t variant, unsigned char *c, un
  * its tag. Otherwise sets `*mlen_p` to 0, returns -1, and writes zeros to the `clen - 32` bytes at `m`, or nothing if
  * no message has these lengths. If `m` is null, it only verifies.
  */
-HUNKRAVY_MUST_USE static inline int hunkravy_sodium_decrypt(uint32_t variant, unsigned char *m,
+HUNKRAVY_MUST_USE static __inline int hunkravy_sodium_decrypt(uint32_t variant, unsigned char *m,
     unsigned long long *mlen_p, const unsigned char *c, unsigned long long clen, const unsigned char *ad,
     unsigned long long adlen, const unsigned char *npub, const unsigned char *k)
 {
@@ -158,34 +158,37 @@ HUNKRAVY_MUST_USE static inline int hunkravy_sodium_decrypt(uint32_t variant, un
 /* ---- The functions of a cipher: those above with its variant, a random key, and the constants below */
 
 #define HUNKRAVY_SODIUM_FUNCTIONS(cipher, variant) \
-    static inline size_t cipher##_keybytes(void) { return cipher##_KEYBYTES; } \
-    static inline size_t cipher##_nsecbytes(void) { return cipher##_NSECBYTES; } \
-    static inline size_t cipher##_npubbytes(void) { return cipher##_NPUBBYTES; } \
-    static inline size_t cipher##_abytes(void) { return cipher##_ABYTES; } \
-    static inline size_t cipher##_messagebytes_max(void) { return cipher##_MESSAGEBYTES_MAX; } \
-    static inline void cipher##_keygen(unsigned char k[cipher##_KEYBYTES]) { randombytes_buf(k, cipher##_KEYBYTES); } \
-    static inline int cipher##_encrypt_detached(unsigned char *c, unsigned char *mac, unsigned long long *maclen_p, \
+    static __inline size_t cipher##_keybytes(void) { return cipher##_KEYBYTES; } \
+    static __inline size_t cipher##_nsecbytes(void) { return cipher##_NSECBYTES; } \
+    static __inline size_t cipher##_npubbytes(void) { return cipher##_NPUBBYTES; } \
+    static __inline size_t cipher##_abytes(void) { return cipher##_ABYTES; } \
+    static __inline size_t cipher##_messagebytes_max(void) { return cipher##_MESSAGEBYTES_MAX; } \
+    static __inline void cipher##_keygen(unsigned char k[cipher##_KEYBYTES]) \
+    { \
+        randombytes_buf(k, cipher##_KEYBYTES); \
+    } \
+    static __inline int cipher##_encrypt_detached(unsigned char *c, unsigned char *mac, unsigned long long *maclen_p, \
         const unsigned char *m, unsigned long long mlen, const unsigned char *ad, unsigned long long adlen, \
         const unsigned char *nsec, const unsigned char *npub, const unsigned char *k) \
     { \
         (void)nsec; \
         return hunkravy_sodium_encrypt_detached(variant, c, mac, maclen_p, m, mlen, ad, adlen, npub, k); \
     } \
-    HUNKRAVY_MUST_USE static inline int cipher##_decrypt_detached(unsigned char *m, unsigned char *nsec, \
+    HUNKRAVY_MUST_USE static __inline int cipher##_decrypt_detached(unsigned char *m, unsigned char *nsec, \
         const unsigned char *c, unsigned long long clen, const unsigned char *mac, const unsigned char *ad, \
         unsigned long long adlen, const unsigned char *npub, const unsigned char *k) \
     { \
         (void)nsec; \
         return hunkravy_sodium_decrypt_detached(variant, m, c, clen, mac, ad, adlen, npub, k); \
     } \
-    static inline int cipher##_encrypt(unsigned char *c, unsigned long long *clen_p, const unsigned char *m, \
+    static __inline int cipher##_encrypt(unsigned char *c, unsigned long long *clen_p, const unsigned char *m, \
         unsigned long long mlen, const unsigned char *ad, unsigned long long adlen, const unsigned char *nsec, \
         const unsigned char *npub, const unsigned char *k) \
     { \
         (void)nsec; \
         return hunkravy_sodium_encrypt(variant, c, clen_p, m, mlen, ad, adlen, npub, k); \
     } \
-    HUNKRAVY_MUST_USE static inline int cipher##_decrypt(unsigned char *m, unsigned long long *mlen_p, \
+    HUNKRAVY_MUST_USE static __inline int cipher##_decrypt(unsigned char *m, unsigned long long *mlen_p, \
         unsigned char *nsec, const unsigned char *c, unsigned long long clen, const unsigned char *ad, \
         unsigned long long adlen, const unsigned char *npub, const unsigned char *k) \
     { \

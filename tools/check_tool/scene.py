@@ -1,6 +1,6 @@
 """What the scenes of this folder share: a folder with keys and sealed files, and runs of the program in it.
 
-TOOL is the program, START the one that starts a build, VERSION its version, and CALLS_LIBRARY the library of calls.c,
+TOOL is the program, VERSION its version, and CALLS_LIBRARY the library of calls.c,
 as tools/rules.mk sets them.
 """
 
@@ -14,7 +14,6 @@ import tempfile
 import unittest
 
 TOOL = os.environ["TOOL"]
-START = os.environ["START"]
 ROOT = pathlib.Path(__file__).resolve().parents[2]
 
 

@@ -11,11 +11,8 @@ MANUAL = ROOT / "crates/hunkravy/manual"
 
 
 class Words(Scene):
-    # What was not proved is not in the folder of a level, and makes no claim.
     def test_help_and_version(self):
         self.tool(0, "--version", [f"^hunkravy {re.escape(VERSION)}$", "proved by rattle-kit"])
-        shutil.copy(TOOL, "elsewhere")
-        self.tool(0, ["./elsewhere", "--version"], rf"\Ahunkravy {re.escape(VERSION)}\n\Z")
         if shutil.which("rt"):
             self.shell(0, '$TOOL --version | grep -xF "proved by $(rt version)"')
         os.symlink(TOOL, "\033[31m")
