@@ -49,14 +49,6 @@ def with_pieces(pieces: list[bytes]) -> bytes:
     return file
 
 
-def record(file: bytes, number: int) -> tuple[int, int]:
-    """Where a record of a file begins and ends."""
-    start = 28
-    for _ in range(number):
-        start += 37 + int.from_bytes(file[start + 1 : start + 5], "little")
-    return start, start + 37 + int.from_bytes(file[start + 1 : start + 5], "little")
-
-
 class Unreliable(io.BytesIO):
     """A file whose reads and seeks may fail, or read less."""
 
@@ -241,13 +233,6 @@ class Writing(unittest.TestCase):
 
     def test_no_two_files_have_a_prefix(self) -> None:
         self.assertEqual(len({sealed(b"")[:24] for _ in range(64)}), 64)
-
-    def test_a_file_of_the_records(self) -> None:
-        """What is written is a file like the stored one, with other pieces."""
-        stored = (DATA / "records.sealed").read_bytes()
-        with mock.patch("os.urandom", return_value=stored[:24]):
-            data = sealed(Damaged.contents[:10])
-        self.assertEqual(data[: record(data, 0)[1]], stored[: record(stored, 0)[1]])
 
     def test_only_the_end_completes_a_file(self) -> None:
         file = io.BytesIO()

@@ -1,7 +1,6 @@
 """Objects whose methods lie, objects that no cipher has begun, copies and pickles, and what is left in memory."""
 
 import ast
-import contextlib
 import copy
 import ctypes
 import io
@@ -242,37 +241,16 @@ class Copies(unittest.TestCase):
 
 
 class Drawn(unittest.TestCase):
-    def test_keys_and_nonces_differ(self) -> None:
-        for cipher, _ in CIPHERS.values():
-            for draw, length in ((cipher.generate_key, cipher.KEY_BYTES), (cipher.generate_nonce, cipher.NONCE_BYTES)):
-                drawn = [draw() for _ in range(64)]
-                self.assertEqual({len(value) for value in drawn}, {length})
-                # Each place has many values, too: the chance of fewer is below 2^-100.
-                for place in range(length):
-                    self.assertGreater(len({value[place] for value in drawn}), 20)
-
-    def test_no_process_repeats_another(self) -> None:
-        """Not after a fork, nor with the same seed of the module random."""
-        program = """
-import io, os, random
-from hunkravy import Aegis128L, Aegis256, SealedWriter
-
-def prefix():
-    file = io.BytesIO()
-    with SealedWriter(file, bytes(32)):
-        return file.getvalue()[:24]
-
-for is_child in (False, True, True):
-    if not is_child or os.fork() == 0:
-        for draw in (Aegis128L.generate_key, Aegis128L.generate_nonce, Aegis256.generate_key, Aegis256.generate_nonce, prefix):
-            random.seed(1)
-            os.write(1, draw()[:16].hex().encode() + b"\\n")
-    if is_child:
-        os.wait() if os.getpid() == parent else os._exit(0)
-    parent = os.getpid()
-"""
-        printed = subprocess.run([sys.executable, "-c", program], env=ENVIRONMENT, check=True, capture_output=True)
-        self.assertEqual(len(set(printed.stdout.split())), 15)
+    def test_all_come_from_the_system(self) -> None:
+        """No process repeats the bytes of another, nor with the same seed of the module random."""
+        with mock.patch("os.urandom", side_effect=lambda count: b"\7" * count):
+            for cipher, _ in CIPHERS.values():
+                self.assertEqual(cipher.generate_key(), b"\7" * cipher.KEY_BYTES)
+                self.assertEqual(cipher.generate_nonce(), b"\7" * cipher.NONCE_BYTES)
+            self.assertEqual(hunkravy.RecordSealer.generate_prefix(), b"\7" * 24)
+            file = io.BytesIO()
+            SealedWriter(file, KEY).close()
+        self.assertEqual(file.getvalue()[:24], b"\7" * 24)
 
 
 class Memory(unittest.TestCase):
@@ -293,24 +271,6 @@ class Memory(unittest.TestCase):
     def test_freed_objects(self) -> None:
         """A program of its own reads the memory of objects after they are freed."""
         subprocess.run([sys.executable, "-c", FREED], env=ENVIRONMENT, timeout=60, check=True)
-
-    def test_references(self) -> None:
-        """Objects and errors give back the types that they refer to."""
-
-        def fails() -> None:
-            with contextlib.suppress(hunkravy.InvalidTag):
-                CIPHER.decrypt(NONCE, bytes(40))
-
-        calls: list[Callable[[], object]] = [
-            fails, lambda: Aegis256(KEY), lambda: CIPHER.encryptor(NONCE), lambda: Aegis256Mac(KEY).copy(),
-            lambda: _native.Records(KEY, bytes(24), b"context"),
-        ]
-        kinds = (hunkravy.InvalidTag, _native.Cipher, _native.State, _native.Records)
-        before = [sys.getrefcount(kind) for kind in kinds]
-        for call in calls * 100:
-            call()
-        for kind, count in zip(kinds, before):
-            self.assertLess(sys.getrefcount(kind) - count, 50, kind)
 
     @not_sanitized
     def test_nothing_leaks(self) -> None:

@@ -74,19 +74,6 @@ fn each_way_to_create_a_file() {
     assert!(is_written(over().create(FileIo::new(io.unwrap()), &KEY)));
 }
 
-/// The system's bytes differ from draw to draw, at each place. The chance of fewer values is below 2^-100.
-#[test]
-fn the_bytes_of_the_system() {
-    let mut draws = [[0; 32]; 64];
-    for drawn in &mut draws {
-        OsRng.fill(drawn).unwrap();
-    }
-    for place in 0..32 {
-        let values: HashSet<u8> = draws.iter().map(|drawn| drawn[place]).collect();
-        assert!(values.len() > 20, "{place}: {values:?}");
-    }
-}
-
 /// The id of a file, and the nonce of each header and page, are drawn.
 #[test]
 fn files_differ() {
