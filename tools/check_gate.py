@@ -22,7 +22,7 @@ MAKE = """#!/bin/bash
 for target in "$@"; do
     case $target in -* | *=*) continue ;; esac
     echo "$target" >> targets
-    if [ "$target" = "${FAILS:-}" ]; then exit 2; fi
+    if [ "$target" = "${FAILS:-}" ]; then seq 5000; echo 'the reason'; exit 2; fi
     if [ "$target" = "${HANGS:-}" ]; then sleep 60; fi
     if [ "$target" = "${IDLE:-}" ]; then echo "make: Nothing to be done for '$target'."; fi
     if [ "$target" = "${LEAVES:-}" ]; then echo 'left out: a part'; fi
@@ -43,6 +43,7 @@ def run(folder, **variables):
     folder.joinpath("targets").write_text("")
     environment = {"PATH": f"{folder / 'bin'}:/usr/bin:/bin", "MAKE": str(folder / "make"), "LIMIT": "30", **variables}
     found = subprocess.run([GATE], cwd=folder, env=environment, stdout=subprocess.PIPE, stderr=subprocess.STDOUT, text=True)
+    folder.joinpath("said").write_text(found.stdout)
     return found.returncode, found.stdout.splitlines()[-1], folder.joinpath("targets").read_text().split()
 
 
@@ -95,6 +96,9 @@ with tempfile.TemporaryDirectory() as name:
     for target in dict.fromkeys(targets):
         status, last, _ = run(folder, FAILS=target)
         check(status == 1 and ", 1 failed, " in last or targets.count(target) > 1, f"{target} fails: {status}, {last}")
+    run(folder, FAILS="check-abi")
+    said = folder.joinpath("said").read_text().splitlines()
+    check("the reason" in said and len(said) < 300, f"it prints {len(said)} lines of a failed check, or not its reason")
     for variables, count in (
         ({"IDLE": "check-time"}, ", 1 failed, 0 left out"),
         ({"REFUSED": "1"}, ", 1 failed, 0 left out"),
