@@ -572,11 +572,11 @@ static int open_with_paths(struct posix **posix, const char *path, int is_new)
 /* Opens a file at a path, or makes one. */
 int hunkravy_file_posix(struct hunkravy_storage *storage, const char *path, int is_new)
 {
-    struct process owner;
-    struct posix *posix;
-    TRY(hunkravy_file_this_process(&owner));
+    struct process owner = {0};
+    struct posix *posix = NULL;
     char *whole = absolute(path);
-    int code = whole == NULL ? errno : open_with_paths(&posix, whole, is_new);
+    int code = whole == NULL ? errno : hunkravy_file_this_process(&owner);
+    code = code != 0 ? code : open_with_paths(&posix, whole, is_new);
     free(whole);
     TRY(code);
     posix->journal = -1;
