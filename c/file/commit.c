@@ -3,6 +3,7 @@
 #include "journal.h"
 
 #include <errno.h>
+#include <pthread.h>
 #include <stdlib.h>
 #include <string.h>
 
@@ -305,11 +306,16 @@ static int commit(hunkravy_file *file)
 
 int hunkravy_file_commit(hunkravy_file *file)
 {
+    int state;
     TRY(hunkravy_file_check(file));
     if (file->batch != NULL) {
         return HUNKRAVY_OPEN_BATCH;
     }
-    return file->failure = hunkravy_file_is_this(&file->owner) ? commit(file) : HUNKRAVY_FILE_LOCKED;
+    /* A thread that is cancelled in a call of the system would leave the pages encrypted. */
+    (void)pthread_setcancelstate(PTHREAD_CANCEL_DISABLE, &state);
+    file->failure = hunkravy_file_is_this(&file->owner) ? commit(file) : HUNKRAVY_FILE_LOCKED;
+    (void)pthread_setcancelstate(state, &state);
+    return file->failure;
 }
 
 /* ---- Opening */

@@ -39,13 +39,14 @@
  * - HUNKRAVY_DAMAGED_PAGE: a page is not authentic. hunkravy_file_damaged_page has its number.
  * - HUNKRAVY_FILE_TOO_LONG: the contents would be longer than 2^60 bytes, or no more commits are possible.
  * - HUNKRAVY_FILE_LOCKED: the file is open already, here or in another process. After a fork it is open in the process
- *   that opened it.
+ *   that opened it. A child that clone has made is told by its number alone.
  * - HUNKRAVY_FILE_MOVED: the file was renamed, removed or replaced, or has several hard links: its journal would not be
  *   found.
  * - HUNKRAVY_FILE_BROKEN: an earlier commit has failed, and may be in the file in part. Open the file again.
  * - HUNKRAVY_OPEN_BATCH: a batch has not ended.
  *
- * THREADS. Use a file from one thread at a time. Exception: hunkravy_file_check may be called from any.
+ * THREADS. Use a file from one thread at a time. Exception: hunkravy_file_check may be called from any. Do not cancel a
+ * thread (pthread_cancel) while it is in a function. A commit is completed first.
  */
 #ifndef HUNKRAVY_FILE_H
 #define HUNKRAVY_FILE_H

@@ -6,7 +6,6 @@ use std::cell::Cell;
 use std::error::Error as _;
 use std::io::{self, Write};
 use std::panic::{AssertUnwindSafe, catch_unwind};
-use std::time::Instant;
 
 type Change = fn(&mut File) -> Result<()>;
 
@@ -144,18 +143,6 @@ fn the_default_limit() {
     assert_eq!(disks.calls(), count);
     file.write(&[1], 16 << 20).unwrap();
     assert!(disks.calls() > count);
-}
-
-/// Each of many writes takes as long as the first: all of them take about a second, not a minute.
-#[test]
-fn many_changes() {
-    let mut file = Disks::new().create();
-    let begun = Instant::now();
-    for page in 0..30_000 {
-        file.write(&[1; 256], 256 * page).unwrap();
-    }
-    assert!(begun.elapsed().as_secs() < 10);
-    file.discard();
 }
 
 /// Returns the calls of the disks, and forgets them.
