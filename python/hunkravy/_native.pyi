@@ -10,6 +10,8 @@ from ._variants import Variant
 
 LEVEL: Final[int]
 
+def forks() -> int: ...
+
 class InvalidTag(Exception): ...
 
 @final

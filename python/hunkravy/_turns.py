@@ -8,6 +8,8 @@ import sys
 import threading
 from typing import Any, ContextManager, cast
 
+from . import _native
+
 
 def waited_for(lock: Any) -> ContextManager[Any]:
     """Returns a lock. It raises an error if the interpreter ends, since a thread that has the lock then never goes on."""
@@ -18,20 +20,9 @@ def waited_for(lock: Any) -> ContextManager[Any]:
     return cast(ContextManager[Any], lock)
 
 
-forks = 0
-
-
-def count_fork() -> None:
-    global forks
-    forks += 1
-
-
-os.register_at_fork(after_in_child=count_fork)
-
-
 def process() -> tuple[int, int]:
     """Returns this process. The numbers of one and of its child can be equal: both can be the first of a container."""
-    return os.getpid(), forks
+    return os.getpid(), _native.forks()
 
 
 class Turns:
@@ -50,6 +41,7 @@ class Turns:
         locks = vars(self).get("_locks")
         if locks is None:
             return contextlib.nullcontext()
+        forks = _native.forks()
         owner = locks.get(forks) or locks.setdefault(forks, threading.RLock())
         if owner._is_owned():
             raise RuntimeError("reentrant call")

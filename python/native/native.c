@@ -633,6 +633,16 @@ static void count_fork(void)
     forks++;
 }
 
+/* Returns their number, also of those that Python has not made. */
+static PyObject *count_of_forks(PyObject *module, PyObject *none)
+{
+    (void)module;
+    (void)none;
+    return PyLong_FromUnsignedLong(forks);
+}
+
+static PyMethodDef functions[] = {{"forks", count_of_forks, METH_NOARGS, NULL}, {NULL, NULL, 0, NULL}};
+
 static PyType_Slot cipher_slots[] = {
     {Py_tp_new, SLOT(cipher_new)}, {Py_tp_dealloc, SLOT(cipher_free)}, {Py_tp_methods, cipher_methods}, {0, NULL}};
 static PyType_Slot state_slots[] = {{Py_tp_dealloc, SLOT(state_free)}, {Py_tp_methods, state_methods}, {0, NULL}};
@@ -708,6 +718,7 @@ static PyModuleDef definition = {
     .m_base = PyModuleDef_HEAD_INIT,
     .m_name = "hunkravy._native",
     .m_size = sizeof(Module),
+    .m_methods = functions,
     .m_slots = slots,
     .m_traverse = traverse,
     .m_clear = clear,

@@ -8,9 +8,9 @@ import traceback
 from collections.abc import Callable, Iterator
 
 
-def returns_in_a_fork(call: Callable[[], object]) -> bool:
+def returns_in_a_fork(call: Callable[[], object], fork: Callable[[], int] = os.fork) -> bool:
     """Whether the call returns there, without an exception and within a minute."""
-    child = os.fork()
+    child = fork()
     if child == 0:
         signal.alarm(60)
         try:

@@ -3,6 +3,7 @@
 import array
 import concurrent.futures
 import csv
+import ctypes
 import errno
 import io
 import itertools
@@ -300,9 +301,10 @@ class Writing(unittest.TestCase):
         text = io.TextIOWrapper(writer)
         text.write("contents")
         begun = file.getvalue()
-        # Both processes may be the first of a container.
+        # Both processes may be the first of a container, and another library may fork.
         with mock.patch("os.getpid", return_value=os.getpid()):
-            self.assertTrue(returns_in_a_fork(use))
+            for fork in (os.fork, ctypes.PyDLL(None).fork):
+                self.assertTrue(returns_in_a_fork(use, fork))
         text.close()
         self.assertEqual(SealedReader(io.BytesIO(file.getvalue()), KEY).read(), b"contents")
 
