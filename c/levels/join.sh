@@ -22,7 +22,7 @@ x86_64*) branches=-fcf-protection ;;
 esac
 compile() {
     "${CC:-gcc}" -std=gnu99 -O2 -fPIC -fno-semantic-interposition -ffunction-sections -fdata-sections -fstack-protector-strong \
-        -U_FORTIFY_SOURCE -D_FORTIFY_SOURCE=3 $branches -Wall -Wextra -Wpedantic -Werror "-I$here/../include" "-I$here/../library" "$@"
+        -U_FORTIFY_SOURCE -D_FORTIFY_SOURCE=3 $branches -Wall -Wextra -Wpedantic -Werror -Wno-error=cpp "-I$here/../include" "-I$here/../library" "$@"
 }
 
 # The names of the functions that an object exports.
