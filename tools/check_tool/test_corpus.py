@@ -68,8 +68,8 @@ class Corpus(Scene):
             contents = b"xyz" if "with-contents" in row["name"] else b"0123456789abcdefghijkl"
             is_whole, verified = row["cause"] == "none", int(row["verified"])
             self.assertEqual(opened()[:2], (not is_whole, contents[:verified]), row["name"])
-            self.check_parts(contents, verified, row["name"])
             if not is_whole:
+                self.check_parts(contents, verified, row["name"])
                 self.check_commands(row["cause"].replace("_", "-"), row["name"])
 
     def check_parts(self, contents, verified, name):
