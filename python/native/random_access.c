@@ -434,18 +434,20 @@ static PyObject *file_write_at(PyObject *object, PyObject *given)
     File *self = (File *)object;
     Py_buffer data;
     uint64_t offset, page;
-    size_t length;
     int code;
     if (!PyArg_ParseTuple(given, "O&y*", natural, &offset, &data)) {
         return NULL;
     }
-    length = (size_t)data.len;
-    if (begin_change(self)) {
-        CALL(self, code, page, hunkravy_file_write(called, offset, data.buf, length));
-        (void)result_of(code, page, NULL, NULL);
+    /* Made first, so that no change is made whose result cannot be. */
+    PyObject *result = PyLong_FromSsize_t(data.len);
+    if (result == NULL || !begin_change(self)) {
+        Py_CLEAR(result);
+    } else {
+        CALL(self, code, page, hunkravy_file_write(called, offset, data.buf, (size_t)data.len));
+        result = result_of(code, page, NULL, result);
     }
     PyBuffer_Release(&data);
-    return PyErr_Occurred() == NULL ? PyLong_FromSize_t(length) : NULL;
+    return result;
 }
 
 static PyObject *file_truncate(PyObject *object, PyObject *given)
@@ -453,11 +455,13 @@ static PyObject *file_truncate(PyObject *object, PyObject *given)
     File *self = (File *)object;
     uint64_t size, page;
     int code;
-    if (!natural(given, &size) || !begin_change(self)) {
+    PyObject *result = natural(given, &size) ? PyLong_FromUnsignedLongLong(size) : NULL;
+    if (result == NULL || !begin_change(self)) {
+        Py_XDECREF(result);
         return NULL;
     }
     CALL(self, code, page, hunkravy_file_truncate(called, size));
-    return result_of(code, page, NULL, PyLong_FromUnsignedLongLong(size));
+    return result_of(code, page, NULL, result);
 }
 
 static PyObject *file_size(PyObject *object, void *closure)
