@@ -166,7 +166,7 @@ check-c-%: $(OUT)/%/libhunkravy.a
 # The programs with the calls of c/library under gcc's sanitizers, over the proved exports of one level. These get no null
 # pointer.
 SANITIZED_LEVEL = $(if $(filter aarch64,$(FOLDER)),aarch64,$(firstword $(LEVELS)))
-SANITIZED = $(OUT)/sanitized
+SANITIZED = $(OUT)/$(FOLDER)/sanitized
 
 check-sanitized: $(OUT)/$(SANITIZED_LEVEL)/aegis_c.a
 	mkdir -p $(SANITIZED)
