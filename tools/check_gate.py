@@ -113,4 +113,9 @@ with tempfile.TemporaryDirectory() as name:
         check(status == 1 and last.endswith(count), f"{variables}: {status}, {last}")
         check(time.monotonic() - begun < 30, f"{variables}: it takes {time.monotonic() - begun:.0f} s")
     check(run(folder, LEAVES="check-time")[0] == 0, "it fails if a part is left out")
+    for lost in "6 the proofs", "1 the C library and time":
+        (folder / ".ci").mkdir(exist_ok=True)
+        (folder / ".ci" / "tests").write_text(f"{lost}\n")
+        status, last, _ = run(folder)
+        check(status == 1 and ", 1 failed, " in last, f"{lost}, and fewer ran: {status}, {last}")
 print("the gate runs each check, and fails if one does")

@@ -124,8 +124,9 @@ class RecordOpener(variants.Secret, turns.Turns):
     """Decrypts the records of a stream, in their order.
 
     The stream is complete only if `finish` returns. Until then it may be truncated. A fault raises `RecordError`, and
-    each later call raises it again, so a record cannot be tried with other bytes. After an exception of a signal handler
-    in `open`, go on with another opener `at` the `position` from before the call: this one may raise `RuntimeError`.
+    each later call raises it again, so a record cannot be tried with other bytes. After a `MemoryError` or an exception
+    of a signal handler in `open`, go on with another opener `at` the `position` from before the call: this one may raise
+    `RuntimeError`.
     """
 
     def __init__(
@@ -196,11 +197,12 @@ class RecordOpener(variants.Secret, turns.Turns):
             self._is_between = True
             try:
                 self._has_ended = self._records.open(data)
-                self._position = (number + 1, before + length - RECORD_BYTES)
             except _native.InvalidTag:
                 raise self._fault("damaged") from None
+            message = bytes(data[HEAD_BYTES:-TAG_BYTES])
+            self._position = (number + 1, before + length - RECORD_BYTES)
             self._is_between = False
-            return bytes(data[HEAD_BYTES:-TAG_BYTES])
+            return message
 
     def finish(self, rest: _ReadableBuffer = b"") -> None:
         """Checks that the whole stream was opened, and that no bytes follow it."""
@@ -215,7 +217,7 @@ class RecordOpener(variants.Secret, turns.Turns):
         if self._error is not None:
             raise RecordError(*self._error.args)
         if self._is_between:
-            raise RuntimeError("an exception of a signal handler came while a record was opened")
+            raise RuntimeError("an exception came while a record was opened")
 
     def _fault(self, cause: str) -> RecordError:
         self._error = RecordError(cause, self._position[0])

@@ -280,10 +280,10 @@ static PyObject *file_create(PyObject *type, PyObject *given, PyObject *named)
 }
 
 /*
- * Closes the file, after a commit if `commits`. In a forked process nobody can wait for the lock of a file: a thread of the
+ * Closes the file, after a commit if `commits`, or after its changes are discarded if `discards`. In a forked process nobody can wait for the lock of a file: a thread of the
  * other process may have it for ever, and what that was doing is half done here. Then the memory is left as it is.
  */
-static PyObject *close_file(File *self, bool commits)
+static PyObject *close_file(File *self, bool commits, bool discards)
 {
     bool is_here = self->file != NULL && hunkravy_file_check(self->file) != HUNKRAVY_FILE_LOCKED;
     if (is_here && !begin(self) && self->file != NULL) {
@@ -306,6 +306,9 @@ static PyObject *close_file(File *self, bool commits)
     hunkravy_file *file = self->file;
     self->file = NULL;
     PyThreadState *released = PyEval_SaveThread();
+    if (discards) {
+        hunkravy_file_discard(file);
+    }
     int code = is_here && commits ? hunkravy_file_commit(file) : HUNKRAVY_OK;
     uint64_t page = hunkravy_file_damaged_page(file);
     int closed = hunkravy_file_close(file);
@@ -317,7 +320,7 @@ static PyObject *close_file(File *self, bool commits)
 static PyObject *file_close(PyObject *object, PyObject *none)
 {
     (void)none;
-    return close_file((File *)object, false);
+    return close_file((File *)object, false, false);
 }
 
 /* A file that is dropped without `close` loses its changes. One that a thread of another process was using is left. */
@@ -372,13 +375,7 @@ static bool goes_on(const File *self, int failed)
 static PyObject *file_exit(PyObject *object, PyObject *given)
 {
     int failed = has_failed(given);
-    PyObject *result = failed > 0 && ((File *)object)->file != NULL ? file_discard(object, NULL) : Py_NewRef(Py_None);
-    if (failed < 0 || (result == NULL && !goes_on((File *)object, failed))) {
-        Py_XDECREF(result);
-        return NULL;
-    }
-    Py_XDECREF(result);
-    result = close_file((File *)object, !failed);
+    PyObject *result = failed < 0 ? NULL : close_file((File *)object, !failed, failed);
     if (result == NULL && failed > 0) {
         /* The exception of the block goes on: that the file is broken is not news. */
         PyErr_Clear();

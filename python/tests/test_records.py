@@ -72,7 +72,7 @@ class Streams(unittest.TestCase):
         opener._records = mock.Mock(open=interrupted)
         self.assertRaises(KeyError, opener.open, first)
         for call in (lambda: opener.open(last), opener.finish, lambda: opener.record_length(bytes(5))):
-            self.assertRaisesRegex(RuntimeError, "signal handler", call)
+            self.assertRaisesRegex(RuntimeError, "while a record was opened", call)
         self.assertEqual(RecordOpener.at(KEY, PREFIX, CONTEXT, *before).open(first), b"one")
 
     def test_after_the_end(self) -> None:
