@@ -50,18 +50,19 @@ int hunkravy_file_is_this(const struct process *process)
 
 /* ---- Calls of the system. Each returns 0, or the error number. Those that a new glibc has under new names are made directly. */
 
-/*
- * Opens a file. It never has one of the three standard descriptors: messages are written there. Those that the program has
- * closed stay of no use, but are no longer free.
- */
-static int open_above(const char *path, int flags, mode_t mode)
+int hunkravy_hold_descriptors(void)
 {
     for (int fd = STDIN_FILENO; fd <= STDERR_FILENO; fd++) {
         if (fcntl(fd, F_GETFD) == -1 && open("/", O_PATH | O_CLOEXEC) < 0) {
-            return -1;
+            return errno;
         }
     }
-    return open(path, flags | O_CLOEXEC, mode);
+    return 0;
+}
+
+static int open_above(const char *path, int flags, mode_t mode)
+{
+    return hunkravy_hold_descriptors() != 0 ? -1 : open(path, flags | O_CLOEXEC, mode);
 }
 
 /* Fills `in` from a file, or writes `out` to it if `in` is null: all of the bytes. */
@@ -133,6 +134,16 @@ struct posix {
     char *path, *journal_path, *copy_path, *folder_path;
     char paths[];
 };
+
+/* Another thread may get the number of what is closed, and a process that is forked then must not close that. */
+static void change_journal(struct posix *posix, int fd)
+{
+    int old = posix->journal;
+    posix->journal = fd;
+    if (old >= 0) {
+        close(old);
+    }
+}
 
 /* Checks that the file is the one at its path, and has no other name: its journal would not be found. */
 static int check_name(const struct posix *posix)
@@ -257,8 +268,7 @@ static int open_found(struct posix *posix, const struct stat *found)
         return errno;
     }
     if (look(posix->journal, &own) != 0 || !is_same(&own, found)) {
-        close(posix->journal);
-        posix->journal = -1;
+        change_journal(posix, -1);
         return EINVAL;
     }
     return 0;
@@ -328,10 +338,7 @@ static int system_reserve(void *context, uint64_t from, uint64_t end)
 {
     struct posix *posix = context;
     /* What an earlier try has opened may have been another file, which is gone. */
-    if (posix->journal >= 0) {
-        close(posix->journal);
-        posix->journal = -1;
-    }
+    change_journal(posix, -1);
     posix->is_journal_name_synced = 0;
     if (end > from) {
         TRY(make_room(posix->file, from, end));
@@ -360,8 +367,7 @@ static int system_replace(void *context, const uint8_t *bytes, size_t length)
         close(made);
         return code;
     }
-    close(posix->journal);
-    posix->journal = made;
+    change_journal(posix, made);
     return sync_folder(posix);
 }
 
@@ -404,8 +410,7 @@ static int sync_journal(struct posix *posix)
     if (find(posix->journal_path, &found, &is_there) == 0 && is_there && is_same(&own, &found)) {
         unlink(posix->journal_path);
     }
-    close(posix->journal);
-    posix->journal = -1;
+    change_journal(posix, -1);
     return 0;
 }
 
@@ -506,9 +511,7 @@ static void system_close(void *context)
             flock(posix->file, LOCK_UN);
         }
     }
-    if (posix->journal >= 0) {
-        close(posix->journal);
-    }
+    change_journal(posix, -1);
     close(posix->file);
     free(posix);
 }

@@ -120,6 +120,8 @@ unsafe extern "C" {
     fn hunkravy_record_seal(st: &mut Records<'_>, record: *mut u8, message_len: usize) -> i32;
     fn hunkravy_record_seal_last(st: &mut Records<'_>, record: *mut u8, message_len: usize) -> i32;
     fn hunkravy_wipe(bytes: *mut u8, length: usize);
+    /// Holds the standard descriptors that the program has closed, so that no file gets one. Returns an error number, or 0.
+    pub safe fn hunkravy_hold_descriptors() -> i32;
     pub safe fn hunkravy_commit_step(number: u64, writes: u64, write: &mut u64) -> u32;
     pub safe fn hunkravy_recovery_step(number: u64, writes: u64, write: &mut u64) -> u32;
 }

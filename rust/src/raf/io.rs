@@ -2,6 +2,7 @@
 
 use super::system::{Process, forget, lock, take_room, unlock};
 use super::{Error, Result};
+use crate::exports::hunkravy_hold_descriptors;
 use crate::memory::check_memory;
 use std::ffi::{OsStr, OsString};
 use std::fs::{self, File, Metadata, OpenOptions, Permissions};
@@ -208,7 +209,7 @@ impl FileIo {
         check_memory()?;
         // Another thread may change the working folder.
         let path = &std::path::absolute(path)?;
-        Ok(Self::of(options.read(true).write(true).open(path)?, Some(resolved(path)?)))
+        Ok(Self::of(open(options, path)?, Some(resolved(path)?)))
     }
 
     /// Returns whether this process has opened it.
@@ -418,16 +419,17 @@ impl JournalFile {
     }
 }
 
-/// How a journal is opened.
-fn options() -> OpenOptions {
-    let mut options = File::options();
-    options.read(true).write(true);
-    options
+/// Opens a file with these options. It never has one of the three standard descriptors: messages are written there.
+fn open(options: &mut OpenOptions, path: &Path) -> io::Result<File> {
+    match hunkravy_hold_descriptors() {
+        0 => options.read(true).write(true).open(path),
+        code => Err(io::Error::from_raw_os_error(code)),
+    }
 }
 
 /// Opens the file that was found at a path.
 fn open_same(path: &Path, found: &Metadata) -> io::Result<File> {
-    let file = options().open(path)?;
+    let file = open(&mut File::options(), path)?;
     if is_same(&file.metadata()?, found) { Ok(file) } else { Err(no_journal()) }
 }
 
@@ -502,7 +504,7 @@ fn is_as_safe(journal: &Metadata, of: &Metadata) -> bool {
 /// Creates a journal, and follows no link. It gets the owner, the group and the permissions of the file, as far as the system
 /// allows, so that each user who may write the file may complete its commit.
 fn new_journal(path: &Path) -> io::Result<File> {
-    let file = options().create_new(true).mode(OWNER).open(path)?;
+    let file = open(File::options().create_new(true).mode(OWNER), path)?;
     let Some(of) = found_at(file_of(path))? else {
         return Ok(file);
     };
@@ -766,7 +768,7 @@ pub mod tests {
         let Paths(path, _) = &Paths::new("zeros");
         for (from, end) in [(100, 200_000), (300, 301), (5, 5), (65_536, 131_072)] {
             fs::write(path, [7; 300]).unwrap();
-            write_zeros(&options().open(path).unwrap(), from, end).unwrap();
+            write_zeros(&open(&mut File::options(), path).unwrap(), from, end).unwrap();
             let mut expected = vec![7; 300];
             if from < end {
                 expected.truncate(from as usize);
