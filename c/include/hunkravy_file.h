@@ -31,7 +31,7 @@
  *
  * RESULTS. A function that is marked HUNKRAVY_MUST_USE returns HUNKRAVY_OK, a code of hunkravy.h (negative), or an error
  * number of the system, such as ENOSPC (positive). hunkravy_file_error_text has a message for each. After ENOMEM nothing
- * has changed. These codes are of files:
+ * has changed, unless the function's comment says so. These codes are of files:
  *
  * - HUNKRAVY_NO_FILE: there is no header of this variant and key. The key is wrong, or the file is empty, damaged or
  *   another. If there is no file at the path, the error is ENOENT.
