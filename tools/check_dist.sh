@@ -77,6 +77,16 @@ else
     echo 'left out: the archive for ARM, since aarch64-linux-gnu-gcc is not installed'
 fi
 
+# The packages of the library for two processors can be installed side by side: what both have is the same.
+if ls "$dist"/*_arm64.deb > /dev/null 2>&1; then
+    for name in libhunkravy0 libhunkravy-dev; do
+        for architecture in amd64 arm64; do
+            dpkg-deb -x "$dist/${name}_${version}_$architecture.deb" "$work/both/$architecture"
+        done
+    done
+    diff -r "$work"/both/{amd64,arm64}/usr/share || fail 'the packages for two processors have other files of one name'
+fi
+
 # Everything, unpacked: the archives, the packages as a system of their own, and the wheel.
 install_to=(python3 -m pip install --quiet --no-index --no-deps --disable-pip-version-check --root-user-action=ignore --target)
 mkdir "$work/empty" "$work/site"

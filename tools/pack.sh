@@ -124,9 +124,10 @@ libraries() {
     symbols "$work/libhunkravy0/$library/libhunkravy.so.0" > "$work/libhunkravy0/DEBIAN/symbols"
     echo 'activate-noawait ldconfig' > "$work/libhunkravy0/DEBIAN/triggers"
     # The page on C, which lies beside those that the headers name, and not in a folder beside theirs.
-    python3 tools/ship_pages.py "$work/pages" c/README.md
-    python3 tools/ship_pages.py "$work/pages" docs/RANDOM-ACCESS.md docs/FORMATS.md
-    install -D -m 644 -t "$work/libhunkravy-dev/usr/share/doc/libhunkravy-dev" "$work"/pages/{c,docs}/*.md
+    rm -rf "$work"/pages
+    python3 tools/ship_pages.py "$work/pages/1" c/README.md
+    python3 tools/ship_pages.py "$work/pages/2" docs/RANDOM-ACCESS.md docs/FORMATS.md
+    install -D -m 644 -t "$work/libhunkravy-dev/usr/share/doc/libhunkravy-dev" "$work"/pages/[12]/*/*.md
     package libhunkravy0 libs 'libc6 (>= 2.17)' 'AEGIS ciphers and their MACs with a proved core' \
         'The shared library. It uses no AES instructions and no look-up tables.'
     package libhunkravy-dev libdevel "libhunkravy0 (= $version)" 'AEGIS ciphers and their MACs, for development' \

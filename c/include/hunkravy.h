@@ -345,8 +345,9 @@ void hunkravy_wipe(void *bytes, size_t length);
 const char *hunkravy_version(void);
 
 /*
- * Returns the processor level of the build that runs: 3 or 2 for x86-64-v3 or x86-64-v2, and 1 on aarch64. It returns 0 on a
- * processor that no build runs on, such as one below x86-64-v2. There the other functions end the program with SIGILL.
+ * Returns the processor level of the build that runs: 3 or 2 for x86-64-v3 or x86-64-v2, and 1 on aarch64. It returns 0
+ * on a processor that no build runs on, such as one below x86-64-v2. There each function that computes ends the program
+ * with SIGILL.
  */
 int hunkravy_level(void);
 

@@ -6,17 +6,17 @@ use super::{Error, RafIo, Result};
 /// The algorithm that a header names.
 #[derive(Clone, Copy, Debug, PartialEq, Eq, Hash)]
 pub enum AlgorithmId {
-    /// [`Aegis128L`]
+    /// [`Aegis128L`](super::Aegis128L)
     Aegis128L,
-    /// [`Aegis128X2`]
+    /// [`Aegis128X2`](super::Aegis128X2)
     Aegis128X2,
-    /// [`Aegis128X4`]
+    /// [`Aegis128X4`](super::Aegis128X4)
     Aegis128X4,
-    /// [`Aegis256`]
+    /// [`Aegis256`](super::Aegis256)
     Aegis256,
-    /// [`Aegis256X2`]
+    /// [`Aegis256X2`](super::Aegis256X2)
     Aegis256X2,
-    /// [`Aegis256X4`]
+    /// [`Aegis256X4`](super::Aegis256X4)
     Aegis256X4,
 }
 
