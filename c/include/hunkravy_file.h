@@ -39,7 +39,7 @@
  * - HUNKRAVY_DAMAGED_PAGE: a page is not authentic. hunkravy_file_damaged_page has its number.
  * - HUNKRAVY_FILE_TOO_LONG: the contents would be longer than 2^60 bytes, or no more commits are possible.
  * - HUNKRAVY_FILE_LOCKED: the file is open already, here or in another process. After a fork it is open in the process
- *   that opened it. A child that clone has made is told by its number alone.
+ *   that opened it. A child that clone has made is only kept from commits, by its number.
  * - HUNKRAVY_FILE_MOVED: the file was renamed, removed or replaced, or has several hard links: its journal would not be
  *   found.
  * - HUNKRAVY_FILE_BROKEN: an earlier commit has failed, and may be in the file in part. Open the file again.
@@ -80,9 +80,9 @@ HUNKRAVY_MUST_USE int hunkravy_file_open(hunkravy_file **file, const char *path,
  * Commits the changes, and frees the file whatever happens. A process that did not open the file only frees it. A null
  * pointer is no file, and the result is HUNKRAVY_OK.
  *
- * Nothing is committed, and the result is the reason's code, if a batch is open, if the file is broken, or if a change or a
- * commit has failed and none has been committed since: the pending changes may be a part of what was meant. After
- * hunkravy_file_discard a failed change no longer counts.
+ * Nothing is committed, and the result is the reason's code, if a batch is open, if the file is broken, or if a change or
+ * a commit has failed and none has been committed since: the pending changes may be a part of what was meant. A failure in
+ * a batch that was undone does not count, nor does one before hunkravy_file_discard.
  */
 HUNKRAVY_MUST_USE int hunkravy_file_close(hunkravy_file *file);
 

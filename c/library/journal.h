@@ -63,10 +63,7 @@ HUNKRAVY_MUST_USE uint32_t hunkravy_recovery_step(uint64_t number, uint64_t writ
 /* Fills a key or a nonce with random bytes of the system, and waits until it has seeded its source. Returns 0 or `errno`. */
 HUNKRAVY_MUST_USE int hunkravy_fill_random(uint8_t *bytes, size_t length) HUNKRAVY_NONNULL(1);
 
-/*
- * Holds the three standard descriptors, if the program has closed any, so that no file gets one of them: messages are written
- * there. They stay of no use. Returns 0 or `errno`.
- */
+/* Holds the standard descriptors that the program has closed: messages are written there. Returns 0 or `errno`. */
 HUNKRAVY_MUST_USE int hunkravy_hold_descriptors(void);
 
 #endif

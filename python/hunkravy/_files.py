@@ -159,7 +159,7 @@ class SealedWriter(Sealed):
     def write(self, data: _ReadableBuffer) -> int:
         """Writes all of the data, and returns their length. After an exception the file cannot be completed.
 
-        Exceptions: `TypeError`, and one of a signal handler that came before any of the data were taken in.
+        Exceptions: those that come before any of the data are taken in, such as `TypeError`.
         """
         count = -1
         try:

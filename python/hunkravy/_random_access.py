@@ -142,8 +142,11 @@ class RandomAccessStream(variants.Secret, RawFile):  # type: ignore[misc]
         """Commits, unless in a batch."""
         if self.closed:
             return
-        if self._file.closed:
-            # Another thread may still be closing it.
+        try:
+            if not self._file._is_in_batch:
+                self._file.commit()
+        except ValueError:
+            if not self._file.closed:
+                raise
+            # Another thread has closed it, or is doing so, and commits.
             self._file.close()
-        elif not self._file._is_in_batch:
-            self._file.commit()
