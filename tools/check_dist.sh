@@ -81,6 +81,7 @@ fi
 if ls "$dist"/*_arm64.deb > /dev/null 2>&1; then
     for name in libhunkravy0 libhunkravy-dev; do
         for architecture in amd64 arm64; do
+            mkdir -p "$work/both/$architecture"
             dpkg-deb -x "$dist/${name}_${version}_$architecture.deb" "$work/both/$architecture"
         done
     done
