@@ -131,7 +131,7 @@ libraries() {
     package libhunkravy0 libs 'libc6 (>= 2.17)' 'AEGIS ciphers and their MACs with a proved core' \
         'The shared library. It uses no AES instructions and no look-up tables.'
     package libhunkravy-dev libdevel "libhunkravy0 (= $version)" 'AEGIS ciphers and their MACs, for development' \
-        'Headers, the static library, examples, and pages on C and on random-access files.'
+        'Headers, the static library, examples, and pages on C and on formats of files.'
 }
 
 archive x86_64
