@@ -8,7 +8,7 @@ use Rattle.aegis_base.specs.Variant.{Aegis256}
 use Rattle.aegis_base.specs.Message.{ciphertext, tag}
 use Rattle.aegis_base.specs.Context.{Held, Stands}
 use Rattle.aegis.specs.Calls.{sealing_of}
-use Rattle.aegis.specs.Records.{associated_data, nonce, sealed}
+use Rattle.aegis.specs.RecordStream.{associated_data, nonce, sealed}
 use Rattle.aegis.specs.declared.record.position.RecordPosition.{RecordPosition}
 use Rattle.aegis.specs.declared.record.record_cipher.RecordCipher.{RecordCipher}
 use Rattle.aegis.proofs.Sealed.{drop-past}

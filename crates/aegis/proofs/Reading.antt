@@ -10,7 +10,8 @@ use Rattle.aegis.specs.declared.record.position.RecordPosition.{RecordPosition}
 use Rattle.aegis.specs.declared.record.version.Version.{Version}
 use Rattle.aegis.specs.declared.record.version.Version.TheVariants.{First, Second}
 use Rattle.aegis.specs.Calls.{IsRecord}
-use Rattle.aegis.specs.RecordStream.{HasFault, IsFaultAt, Parts, length_at, parts, parts_after, IsSealing, Sealing, frame, limit}
+use Rattle.aegis.specs.RecordStream.{HasFault, IsFaultAt, Parts, length_at, parts, parts_after, Sealing, frame, limit}
+use Rattle.aegis.specs.Private.{IsSealing}
 
 pub limit-within : (v : Version) → limit v ≤ 16777216
 limit-within First = omega arith

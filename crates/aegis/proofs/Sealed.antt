@@ -7,8 +7,8 @@ use Rattle.aegis_base.specs.Message.{Opens, ciphertext, lane_before, seal, tag}
 use Rattle.aegis_base.proofs.Bijection.{ciphertext-injective, length-ciphertext}
 use Rattle.aegis_base.proofs.Lengths.{length_tag}
 use Rattle.aegis.specs.declared.record.position.RecordPosition.{RecordPosition}
-use Rattle.aegis.specs.Records.{associated_data, nonce, sealed}
-use Rattle.aegis.specs.RecordStream.{IsSealing}
+use Rattle.aegis.specs.RecordStream.{associated_data, nonce, sealed}
+use Rattle.aegis.specs.Private.{IsSealing}
 
 pub drop-past : (k : ℕ) (xs : List ℕ) → length xs ≤ k → drop k xs ≡ []
 drop-past zero [] h = refl

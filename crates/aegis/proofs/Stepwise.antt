@@ -10,10 +10,9 @@ use Rattle.aegis.specs.declared.record.error.RecordError.{RecordError}
 use Rattle.aegis.specs.declared.record.error.RecordError.TheVariants as errors
 use Rattle.aegis.specs.declared.record.position.RecordPosition.{RecordPosition}
 use Rattle.aegis.specs.declared.record.version.Version.{Version}
-use Rattle.aegis.specs.Calls.{IsRecord}
-use Rattle.aegis.specs.RecordStream.{AtEnd, AtHeader, AtRecord, HasFault, IsFaultAt, IsFaultOf, Parts, parts, AreWithin, IsOneRecordStream, Sealing, first_position, frame, frames, beginning, header, limit, position_after}
-use Rattle.aegis.specs.Progress.{AcceptsNext, IsFirstFault, OpensNext, AreRecordsOfSomeVersion, Begun, IsRecordFault, IsUnder, Progress, after, last_flag, progress_at, record_of, sealing_in, start_of}
-use Rattle.aegis.specs.Records.{AreRecords, IsFault, sealed}
+use Rattle.aegis.specs.Calls.{AcceptsNext, AreRecordsOfSomeVersion, Begun, IsFirstFault, IsRecord, IsRecordFault, OpensNext, Progress, after, last_flag, progress_at, record_of, sealing_in, start_of}
+use Rattle.aegis.specs.RecordStream.{AreRecords, AreWithin, AtEnd, AtHeader, AtRecord, HasFault, IsFault, IsFaultAt, IsFaultOf, IsOneRecordStream, Parts, Sealing, beginning, first_position, frame, frames, header, limit, parts, position_after, sealed}
+use Rattle.aegis.specs.Private.{IsUnder}
 use Rattle.aegis.proofs.Frames.{Closes, closes, frame_one, frame_sound, beginning_append, beginning_follows, beginning_push, header_size, one_record_stream, position_append, version_after, within_append}
 use Rattle.aegis.proofs.Lengths.{length-begun, length-frame}
 use Rattle.aegis.proofs.Reading.{fault_more, long_is, unknown_is, whole_is}

@@ -1,4 +1,3 @@
 pub mod Calls
-pub mod Progress
-pub mod Records
+pub mod Private
 pub mod RecordStream

@@ -1,14 +1,15 @@
 -- Streams of records, for any sealing: a header, and then records, numbered from 0. Each is a flag, the length of its message in
--- four bytes, least byte first, and the sealed message. The fault of bytes that are the stream of no list of messages is the first
--- one, read from the beginning. `Records.antt` has the sealing.
+-- four bytes, least byte first, and the sealed message. Bytes that are no stream have a first fault, read from the beginning.
 use Rattle.std.specs.Prelude.{◌≡◌, ℕ, ◌+◌, ◌*◌, ◌<◌, ◌≤◌, List, [], ◌∷◌, ◌++◌, codes, length, ◌≢◌, drop, nat_lt, take, Result, Ok, Err, if◌then◌else◌}
-use Rattle.std.specs.Int.{w32, to_le_bytes, from_le_bytes}
+use Rattle.std.specs.Int.{w32, to_le_bytes, from_le_bytes, w64}
 use Rattle.std.specs.List.{AllByRecursion}
 use Rattle.aegis.specs.declared.record.position.RecordPosition.{RecordPosition}
 use Rattle.aegis.specs.declared.record.version.Version.{Version}
 use Rattle.aegis.specs.declared.record.version.Version.TheVariants.{First, Second}
 use Rattle.aegis.specs.declared.record.error.RecordError.{RecordError}
 use Rattle.aegis.specs.declared.record.error.RecordError.TheVariants as errors
+use Rattle.aegis_base.specs.Variant.{Aegis256, long_tag_bytes}
+use Rattle.aegis_base.specs.Message.{ciphertext, tag}
 
 -- the bytes that a stream begins with
 abbrev pub header : Version → List ℕ
@@ -23,6 +24,10 @@ limit Second = 16_777_216
 -- the ciphertext and the tag of a record, from its position, its flag and its message
 abbrev pub Sealing : Type 0
 Sealing = RecordPosition → ℕ → List ℕ → List ℕ
+
+-- how many bytes a record has more than its message: a flag, a length and a tag
+abbrev pub record_overhead : ℕ
+record_overhead = 37
 
 -- the record at a position
 unfoldable pub frame : Sealing → RecordPosition → ℕ → List ℕ → List ℕ
@@ -42,7 +47,7 @@ position_after position (m ∷ ms) = position_after (next_position position m) m
 
 -- the byte of a stream at which the record at a position starts: how many bytes the stream has up to it
 abbrev pub start_at : RecordPosition → ℕ
-start_at position = 4 + 37 * position.number + position.before
+start_at position = 4 + record_overhead * position.number + position.before
 
 -- the flag of a record before these messages: 0, or `last` if there are none
 abbrev pub flag_before : ℕ → List (List ℕ) → ℕ
@@ -72,18 +77,13 @@ pub record IsRecordStream (sealing : Sealing) (v : Version) (ms : List (List ℕ
 -- each record adds 37 bytes to its message, and the header has four
 abbrev pub frames_length : List (List ℕ) → ℕ
 frames_length [] = 0
-frames_length (m ∷ ms) = (37 + length m) + frames_length ms
+frames_length (m ∷ ms) = (record_overhead + length m) + frames_length ms
 
 -- how long the stream of the messages is
 abbrev pub records_length : List (List ℕ) → ℕ
 records_length ms = 4 + frames_length ms
 
 -- ---- laws
-
--- sealing adds 32 bytes, and at one position no two messages are sealed to the same bytes
-pub record IsSealing (sealing : Sealing) : Type 0 where
-  pub long : (position : RecordPosition) (flag : ℕ) (m : List ℕ) → length (sealing position flag m) ≡ length m + 32
-  pub one : (position : RecordPosition) (flag : ℕ) (m n : List ℕ) → sealing position flag m ≡ sealing position flag n → m ≡ n
 
 -- Two streams that the same bytes begin with are one stream, and the same bytes follow it. So no bytes are the streams of two
 -- lists or two versions, and no stream is a proper beginning of another.
@@ -108,8 +108,8 @@ parts_after v flag bytes =
     if nat_lt 1 flag then Err errors.Flag
     else if nat_lt (length bytes) 4 then Err errors.Truncated
     else if nat_lt (limit v) (length_at bytes) then Err errors.TooLong
-    else if nat_lt (length (drop 4 bytes)) (length_at bytes + 32) then Err errors.Truncated
-    else Ok (flag, take (length_at bytes + 32) (drop 4 bytes), drop (length_at bytes + 32) (drop 4 bytes))
+    else if nat_lt (length (drop 4 bytes)) (length_at bytes + long_tag_bytes) then Err errors.Truncated
+    else Ok (flag, take (length_at bytes + long_tag_bytes) (drop 4 bytes), drop (length_at bytes + long_tag_bytes) (drop 4 bytes))
 
 -- the parts of bytes that begin with a record, sealed or not, or the first fault
 unfoldable pub parts : Version → List ℕ → Result Parts RecordError
@@ -125,9 +125,8 @@ HasFault sealing position (Ok found) e = ((m : List ℕ) → sealing position fo
 abbrev pub IsFaultAt : Sealing → RecordPosition → List ℕ → RecordError → Type 0
 IsFaultAt sealing position bytes e = HasFault sealing position (parts position.version bytes) e
 
--- The fault of bytes, by its position: they begin with no header; or after a header and whole records with the flag 0 the next
--- record has a fault; or bytes follow a stream. In the second case these are all the whole records, since the next one has a
--- fault.
+-- The fault of bytes, by its position: they begin with no header; or after a header and all whole records with the flag 0 the
+-- next record has a fault; or bytes follow a stream.
 pub data FirstFault (sealing : Sealing) (bytes : List ℕ) (e : RecordError) : Type 0 where
   AtHeader : ((v : Version) → take 4 bytes ≢ header v) → e ≡ errors.Header → FirstFault sealing bytes e
   AtRecord : (v : Version) (ms : List (List ℕ)) (rest : List ℕ) → AreWithin v ms → bytes ≡ beginning sealing v 0 ms ++ rest
@@ -144,3 +143,40 @@ abbrev pub IsOneFault : Sealing → Type 0
 IsOneFault sealing =
     ((bytes : List ℕ) (d e : RecordError) → IsFaultOf sealing bytes d → IsFaultOf sealing bytes e → d ≡ e)
     × ((bytes : List ℕ) (v : Version) (ms : List (List ℕ)) (e : RecordError) → IsRecordStream sealing v ms bytes → IsFaultOf sealing bytes e → ⊥)
+
+-- ---- the sealing of record streams: AEGIS-256 with a tag of 32 bytes, under the stream's key
+
+-- how many bytes the context of a stream may have
+abbrev pub max_context_bytes : ℕ
+max_context_bytes = 65_535
+
+-- the nonce of record k: the stream's prefix, of 24 bytes, and the number, least byte first
+abbrev pub prefix_bytes : ℕ
+prefix_bytes = 24
+
+abbrev pub nonce : List ℕ → ℕ → List ℕ
+nonce prefix k = prefix ++ to_le_bytes w64 k
+
+-- in version 2 a record's associated data has how many bytes the messages before it have
+abbrev pub before_bytes : Version → ℕ → List ℕ
+before_bytes First before = []
+before_bytes Second before = to_le_bytes w64 before
+
+-- the associated data of a record: the header, its number, the bytes before it, its flag, and the stream's context
+abbrev pub associated_data : RecordPosition → ℕ → List ℕ → List ℕ
+associated_data position flag context =
+    header position.version ++ to_le_bytes w64 position.number ++ before_bytes position.version position.before ++ flag ∷ context
+
+-- a record's ciphertext and tag
+unfoldable pub sealed : List ℕ → List ℕ → List ℕ → Sealing
+sealed key prefix context position flag m =
+    ciphertext Aegis256 key (nonce prefix position.number) (associated_data position flag context) m
+    ++ tag Aegis256 long_tag_bytes key (nonce prefix position.number) (associated_data position flag context) m
+
+-- the bytes are the stream of the messages: there is at least one, and none is longer than the version allows
+abbrev pub AreRecords : Version → List ℕ → List ℕ → List ℕ → List (List ℕ) → List ℕ → Type 0
+AreRecords v key prefix context ms bytes = IsRecordStream (sealed key prefix context) v ms bytes
+
+-- the fault of bytes that are the stream of no messages
+abbrev pub IsFault : List ℕ → List ℕ → List ℕ → List ℕ → RecordError → Type 0
+IsFault key prefix context bytes e = IsFaultOf (sealed key prefix context) bytes e

@@ -1,5 +1,5 @@
 -- Blocks: lists of sixteen bytes.
-use Rattle.std.specs.Prelude.{◌≡◌, ℕ, zero, suc, ◌+◌, ◌<◌, ◌≤◌, List, [], ◌∷◌, bit_and, bit_xor, slice_index}
+use Rattle.std.specs.Prelude.{ℕ, zero, suc, ◌+◌, List, [], ◌∷◌, bit_and, bit_xor, slice_index}
 use Rattle.std.specs.Simd.Lanes.{zip2}
 
 -- the xor of two blocks, byte by byte
@@ -18,11 +18,3 @@ bytes_at xs i (suc n) = slice_index xs i ∷ bytes_at xs (i + 1) n
 -- the block from place i on, with zeros past the list's end
 abbrev pub block_at : List ℕ → ℕ → List ℕ
 block_at xs i = bytes_at xs i 16
-
--- the bytes before place n are as they were
-abbrev pub IsSameBefore : (n : ℕ) (old new : List ℕ) → Type 0
-IsSameBefore n old new = (i : ℕ) → i < n → slice_index new i ≡ slice_index old i
-
--- the bytes from place n on are as they were
-abbrev pub IsSameFrom : (n : ℕ) (old new : List ℕ) → Type 0
-IsSameFrom n old new = (i : ℕ) → n ≤ i → slice_index new i ≡ slice_index old i

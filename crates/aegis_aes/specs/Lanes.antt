@@ -6,8 +6,7 @@ use Rattle.aegis_aes.specs.Block.{xor}
 abbrev pub IsLaneCount : ℕ → Type 0
 IsLaneCount d = (d ≡ 1) ⊎ ((d ≡ 2) ⊎ (d ≡ 4))
 
--- the context block of lane j of d (AEGIS specification, Init of AEGIS-128X and AEGIS-256X): the lane's number, the
--- last lane's number, and zeros
+-- the context block of lane j of d (AEGIS specification, Init of AEGIS-128X and -256X): its number, the last one's, and zeros
 abbrev pub context : ℕ → ℕ → List ℕ
 context j d = j ∷ (d - 1) ∷ replicate 14 0
 

@@ -1,7 +1,8 @@
-pub mod Field
 pub mod Block
 pub mod Blocks
-pub mod Round
+pub mod Field
 pub mod Lanes
-pub mod Permutes
 pub mod Pairs
+pub mod Permutes
+pub mod Private
+pub mod Round

@@ -1,5 +1,4 @@
--- One round of AES on a block, the key added last (FIPS 197, sections 5.1.1 to 5.1.4). Byte 4c + r of a
--- block is row r of column c.
+-- One round of AES on a block, the key added last (FIPS 197, 5.1.1 to 5.1.4). Byte 4c + r of a block is row r of column c.
 use Rattle.std.specs.Prelude.{ℕ, ◌+◌, ◌-◌, ◌*◌, ◌/◌, ◌%◌, ◌^◌, List, [], ◌∷◌, bit_xor, map, slice_index, sum}
 use Rattle.std.specs.List.{range_with_len}
 use Rattle.aegis_aes.specs.Field.{inverse, mul}
@@ -21,8 +20,7 @@ affine b = sum (map (λ i. affine_bit b i * 2 ^ i) (range_with_len 0 8))
 unfoldable pub substitute : ℕ → ℕ
 substitute a = affine (inverse a)
 
--- entry i of row r of the matrix of MixColumns: row 0 is (2 3 1 1), and each row is the previous one, rotated right by
--- one
+-- entry i of row r of the matrix of MixColumns: row 0 is (2 3 1 1), and each row is the one before, rotated right by one
 abbrev pub weight : ℕ → ℕ → ℕ
 weight r i = slice_index (2 ∷ 3 ∷ 1 ∷ 1 ∷ []) ((i + 4 - r) % 4)
 

@@ -3,7 +3,8 @@
 ghost use Rattle.std.proofs.Common.{ap, inl, inr};
 ghost use Rattle.std.specs.Prelude.{◌≡◌, ℕ, ◌+◌, ◌*◌, ◌<◌, ◌≤◌, ◌++◌, length, List, refl, replicate, slice_index};
 ghost use Rattle.aegis_aes.specs.Block.{and, block_at, xor};
-ghost use Rattle.aegis_aes.specs.Blocks.{block_of_two, each_of_two, two_blocks};
+ghost use Rattle.aegis_aes.specs.Blocks.{block_of_two, each_of_two};
+ghost use Rattle.aegis_aes.specs.Private.{two_blocks};
 ghost use Rattle.aegis_aes.specs.Round.{round, sub_bytes};
 
 use crate::block::AesBlock;

@@ -1,7 +1,8 @@
 //! Pairs: two rows of the state of a parallel AEGIS, side by side.
 
 ghost use Rattle.std.specs.Prelude.{◌≡◌, ℕ, ◌+◌, ◌*◌, ◌<◌, ◌≤◌, length, List, slice_index};
-ghost use Rattle.aegis_aes.specs.Block.{IsSameBefore, IsSameFrom, and, block_at, xor};
+ghost use Rattle.aegis_aes.specs.Private.{IsSameBefore, IsSameFrom};
+ghost use Rattle.aegis_aes.specs.Block.{and, block_at, xor};
 ghost use Rattle.aegis_aes.specs.Blocks.{block_of_two};
 ghost use Rattle.aegis_aes.specs.Round.{round};
 

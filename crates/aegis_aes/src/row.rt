@@ -2,7 +2,8 @@
 
 ghost use Rattle.std.proofs.Common.{inl};
 ghost use Rattle.std.specs.Prelude.{◌≡◌, ℕ, ◌+◌, ◌*◌, ◌<◌, ◌≤◌, length, List, refl, slice_index};
-ghost use Rattle.aegis_aes.specs.Block.{IsSameBefore, IsSameFrom, and, block_at, xor};
+ghost use Rattle.aegis_aes.specs.Private.{IsSameBefore, IsSameFrom};
+ghost use Rattle.aegis_aes.specs.Block.{and, block_at, xor};
 ghost use Rattle.aegis_aes.specs.Round.{complete_round, sub_bytes};
 ghost use Rattle.aegis_aes.specs.Lanes.{IsLaneCount, context, xor_lanes};
 

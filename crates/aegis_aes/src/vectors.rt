@@ -1,7 +1,8 @@
 //! Any number of blocks side by side in one vector.
 
 ghost use Rattle.std.specs.Prelude.{◌≡◌, ℕ, ◌+◌, ◌*◌, ◌<◌, ◌≤◌, length, slice_index};
-ghost use Rattle.aegis_aes.specs.Block.{IsSameBefore, IsSameFrom, and, block_at, xor};
+ghost use Rattle.aegis_aes.specs.Private.{IsSameBefore, IsSameFrom};
+ghost use Rattle.aegis_aes.specs.Block.{and, block_at, xor};
 
 use std::simd::prelude::*;
 

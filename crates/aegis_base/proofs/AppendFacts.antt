@@ -6,7 +6,8 @@ use Rattle.std.proofs.lemmas.List.{get_or_append_left, get_or-append_right, leng
 use Rattle.aegis_aes.specs.Lanes.{IsLaneCount}
 use Rattle.aegis_base.specs.Variant.{Variant}
 use Rattle.aegis_base.specs.Message.{ciphertext_from, keystream_byte_along}
-use Rattle.aegis_base.specs.Context.{HasFrom, IsAlong}
+use Rattle.aegis_base.specs.Private.{HasFrom}
+use Rattle.aegis_base.specs.Context.{IsAlong}
 use Rattle.aegis_base.proofs.Bijection.{ciphertext-is, ciphertext-reads, length-ciphertext, keystream_byte_along-before}
 use Rattle.aegis_base.proofs.MessageFacts.{after-none}
 use Rattle.aegis_base.proofs.ContextFacts.{along-same}

@@ -7,7 +7,8 @@ use Rattle.aegis_aes.specs.Lanes.{IsLaneCount}
 use Rattle.aegis_base.specs.Variant.{Variant, rate}
 use Rattle.aegis_base.specs.Lane.{update}
 use Rattle.aegis_base.specs.Message.{after, after_all, keystream_byte, share_at, keystream_byte_along}
-use Rattle.aegis_base.specs.Context.{HasFrom, IsAlong}
+use Rattle.aegis_base.specs.Private.{HasFrom}
+use Rattle.aegis_base.specs.Context.{IsAlong}
 use Rattle.aegis_base.proofs.MessageFacts.{after-more, after-same, block_count-part, block_count-whole, keystream_byte-periodic, keystream_byte-same, rate-positive, share_at-same}
 
 -- ---- one rate block

@@ -7,7 +7,8 @@ use Rattle.aegis_aes.specs.Lanes.{IsLaneCount}
 use Rattle.aegis_base.specs.Variant.{Variant, rate}
 use Rattle.aegis_base.specs.Lane.{update}
 use Rattle.aegis_base.specs.Message.{block_count, ciphertext, lane_before, keystream_byte, share_at}
-use Rattle.aegis_base.specs.Context.{HasFrom, IsAlong, Stands, held_by, lane_in, lanes_of}
+use Rattle.aegis_base.specs.Private.{HasFrom}
+use Rattle.aegis_base.specs.Context.{IsAlong, Stands, held_by, lane_in, lanes_of}
 use Rattle.aegis_base.proofs.ContextFacts.{IsKept, along-block, along-byte, along-full, along-open, full-end, open-end}
 use Rattle.aegis_base.proofs.MessageFacts.{rate-positive}
 use Rattle.aegis_base.proofs.AppendFacts.{along-longer, along-none, ciphertext-append, has-after}

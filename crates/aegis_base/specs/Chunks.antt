@@ -2,10 +2,9 @@
 use Rattle.std.specs.Prelude.{ℕ, ◌+◌, ◌++◌, ◌&&◌, List, [], ◌∷◌, drop, if◌then◌else◌, leb, length, map, replicate}
 use Rattle.std.specs.Borrow.{Bor}
 use Rattle.std.specs.List.{concat}
-use Rattle.aegis_base.specs.Limits.{max_aead_bytes}
 use Rattle.aegis_base.specs.Message.{Opens}
 use Rattle.aegis_base.specs.Context.{KeyAndNonce}
-use Rattle.aegis_base.specs.Variant.{Variant}
+use Rattle.aegis_base.specs.Variant.{Variant, max_aead_bytes}
 
 -- the bytes of each slice, without where it lies in memory
 abbrev pub texts : List (Bor (List ℕ)) → List (List ℕ)
@@ -35,7 +34,6 @@ abbrev pub OpensChunks : (variant : Variant) (tag_bytes : ℕ) (cipher : KeyAndN
 OpensChunks variant tag_bytes cipher ad room chunks tag m =
     Opens variant tag_bytes cipher.key cipher.nonce ad (accepted room chunks) tag m
 
--- a destination that was `old`, after the n bytes written to its beginning were refused: n zeros, and then the old
--- bytes
+-- a destination that was `old`, after the n bytes written to its beginning were refused: n zeros, and then old bytes
 abbrev pub erased : (n : ℕ) (old : List ℕ) → List ℕ
 erased n old = replicate n 0 ++ drop n old

@@ -10,14 +10,6 @@ pub record IsAlong (variant : Variant) (lanes here : ℕ → List (List ℕ)) (b
   pub whole : (j : ℕ) → j < variant.lanes → here j ≡ after variant (lanes j) j x (t / rate variant)
   pub open_block : (k : ℕ) → k < t % rate variant → slice_index block k ≡ slice_index x (t / rate variant * rate variant + k)
 
--- if there are more blocks, no rate block of r bytes is open after t bytes
-abbrev pub IsUnopened : ℕ → ℕ → ℕ → Type 0
-IsUnopened t more r = 0 < more → t % r ≡ 0
-
--- x has the bytes xs from place t on
-abbrev pub HasFrom : List ℕ → ℕ → List ℕ → Type 0
-HasFrom x t xs = (i : ℕ) → i < length xs → slice_index x (t + i) ≡ slice_index xs i
-
 -- lanes 0 to n - 1 as a list, and lane j of such a list
 unfoldable pub lanes_of : (n : ℕ) (lane : ℕ → List (List ℕ)) → List (List (List ℕ))
 lanes_of n lane = map lane (range_with_len 0 n)

@@ -4,7 +4,7 @@ use Rattle.std.specs.Int.{w64, to_le_bytes}
 use Rattle.aegis_aes.specs.Block.{and, xor}
 use Rattle.aegis_aes.specs.Lanes.{context}
 use Rattle.aegis_aes.specs.Round.{round}
-use Rattle.aegis_base.specs.Variant.{Family, Family128, Family256, Variant}
+use Rattle.aegis_base.specs.Variant.{Family, Family128, Family256, Variant, long_tag_bytes}
 
 -- block Si of a lane, or block i of any list of blocks
 abbrev pub block_in : List (List ℕ) → ℕ → List ℕ
@@ -135,4 +135,4 @@ lane_tag family n s = if n == 16 then short_tag family s else low_tag family s +
 
 -- the lengths of tags, in bytes
 abbrev pub IsTagLength : ℕ → Type 0
-IsTagLength n = (n ≡ 16) ⊎ (n ≡ 32)
+IsTagLength n = (n ≡ 16) ⊎ (n ≡ long_tag_bytes)

@@ -45,16 +45,12 @@ abbrev pub IsCiphertextPrefix : (variant : Variant) → Type 0
 IsCiphertextPrefix variant =
     (key nonce ad m : List ℕ) (k : ℕ) → ciphertext variant key nonce ad (take k m) ≡ take k (ciphertext variant key nonce ad m)
 
--- x and y have the same bytes in the first n rate blocks
-abbrev pub AgreeBefore : (variant : Variant) (n : ℕ) (x y : List ℕ) → Type 0
-AgreeBefore variant n x y = (i : ℕ) → i < n * rate variant → slice_index x i ≡ slice_index y i
-
 -- under one key, nonce and associated data, if two messages of one length agree in the first n rate blocks, the next
 -- rate block of both is xored with the same keystream: the xor of the ciphertexts there is the xor of the messages
 abbrev pub IsKeystreamShared : (variant : Variant) → Type 0
 IsKeystreamShared variant =
     (key nonce ad x y : List ℕ) (n i : ℕ)
-    → length x ≡ length y → AgreeBefore variant n x y → i / rate variant ≡ n
+    → length x ≡ length y → ((k : ℕ) → k < n * rate variant → slice_index x k ≡ slice_index y k) → i / rate variant ≡ n
     → bit_xor (slice_index (ciphertext variant key nonce ad x) i) (slice_index (ciphertext variant key nonce ad y) i)
     ≡ bit_xor (slice_index x i) (slice_index y i)
 

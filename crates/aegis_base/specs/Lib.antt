@@ -1,9 +1,9 @@
 pub mod Chunks
+pub mod Context
 pub mod Lane
 pub mod Laws
-pub mod Limits
 pub mod Mac
 pub mod Message
-pub mod Context
+pub mod Private
 pub mod Saved
 pub mod Variant

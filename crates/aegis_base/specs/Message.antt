@@ -1,6 +1,5 @@
 -- Sealing and opening: each lane alone takes in its share of the associated data and the message, and the lanes are
--- combined only in the xor of their tags. Each byte of the ciphertext is defined by itself, from the beginning. `lanes`
--- is a function from a lane's number to its blocks.
+-- combined only in the xor of their tags. Each byte of the ciphertext is defined by itself. `lanes` has a lane's blocks.
 use Rattle.std.specs.Prelude.{◌≡◌, ℕ, zero, suc, ◌+◌, ◌-◌, ◌*◌, ◌/◌, ◌%◌, List, [], ◌∷◌, bit_xor, length, map, replicate, slice_index}
 use Rattle.std.specs.List.{range_with_len}
 use Rattle.aegis_aes.specs.Block.{block_at, xor}
@@ -87,3 +86,7 @@ seal variant tag_bytes key nonce ad m = (ciphertext variant key nonce ad m, tag 
 -- sealing m gives this ciphertext and tag
 abbrev pub Opens : (variant : Variant) (tag_bytes : ℕ) (key nonce ad c t m : List ℕ) → Type 0
 Opens variant tag_bytes key nonce ad c t m = seal variant tag_bytes key nonce ad m ≡ (c, t)
+
+-- what each byte is after a decryption in place whose tag is wrong: 0xaa (the crate `aegis`)
+abbrev pub erased_byte : ℕ
+erased_byte = 170

@@ -1,5 +1,5 @@
--- The six variants of AEGIS: a family, named after the number of bits of its keys, and a number of lanes. Their names.
-use Rattle.std.specs.Prelude.{ℕ, ◌*◌, ◌==◌, List, codes, if◌then◌else◌}
+-- The six variants of AEGIS: a family, named after the number of bits of its keys, and a number of lanes. Their lengths and names.
+use Rattle.std.specs.Prelude.{ℕ, ◌*◌, ◌==◌, List, codes, if◌then◌else◌, ◌-◌, ◌^◌}
 
 pub data Family : Type 0 where
   Family128 : Family
@@ -40,6 +40,14 @@ rate variant = 16 * (width variant.family * variant.lanes)
 abbrev pub key_length : Family → ℕ
 key_length Family128 = 16
 key_length Family256 = 32
+
+-- the maximum length of a message, and of associated data, in bytes: 2^64 bits are more (AEGIS specification, P_MAX and A_MAX)
+abbrev pub max_aead_bytes : ℕ
+max_aead_bytes = 2 ^ 61 - 1
+
+-- the length of the longer tags, in bytes
+abbrev pub long_tag_bytes : ℕ
+long_tag_bytes = 32
 
 -- the one of three names that belongs to a number of lanes
 abbrev pub by_lanes : ℕ → List ℕ → List ℕ → List ℕ → List ℕ

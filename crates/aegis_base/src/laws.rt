@@ -3,9 +3,8 @@
 
 ghost use Rattle.std.specs.Prelude.{◌≡◌, ℕ};
 ghost use Rattle.aegis_aes.specs.Lanes.{IsLaneCount};
-ghost use Rattle.aegis_base.specs.Variant.{Variant};
+ghost use Rattle.aegis_base.specs.Variant.{Variant, max_aead_bytes};
 ghost use Rattle.aegis_base.specs.Lane.{IsTagLength};
-ghost use Rattle.aegis_base.specs.Limits.{max_aead_bytes};
 ghost use Rattle.aegis_base.specs.Laws.{AreLanesIndependent, IsCiphertextPrefix, IsKeystreamShared, IsLengthKept, IsMacLong, IsMacOfTags, IsOneToOne, IsOnto, IsInitPlain, IsKeystreamPrefix, IsKeystreamSealedZeros, IsKeystreamUndone, IsTagLong};
 
 use crate::error::MAX_AEAD_BYTES;

@@ -1,7 +1,8 @@
 //! States: the lanes of a variant, side by side.
 
 ghost use Rattle.std.specs.Prelude.{◌≡◌, ℕ, ◌+◌, ◌-◌, ◌*◌, ◌^◌, ◌<◌, ◌≤◌, ◌++◌, List, length, slice_index};
-ghost use Rattle.aegis_aes.specs.Block.{IsSameBefore, IsSameFrom, block_at, xor};
+ghost use Rattle.aegis_aes.specs.Private.{IsSameBefore, IsSameFrom};
+ghost use Rattle.aegis_aes.specs.Block.{block_at, xor};
 ghost use Rattle.aegis_aes.specs.Lanes.{IsLaneCount, context, xor_lanes};
 ghost use Rattle.aegis_base.specs.Variant.{Variant, cipher_name, key_length, module_name, rate, width};
 ghost use Rattle.aegis_base.specs.Lane.{finalize, first_blocks, high_tag, keystream_blocks, lane_tag, last_block, last_input, low_tag, block_in, short_tag, init, init_turn, init_turns, update, times};

@@ -4,7 +4,7 @@
 //! Each returns a code of `aegis_c_calls::refusal`. After a code other than 0, nothing has changed.
 
 ghost use Rattle.aegis_c_calls.specs.Codes.{variant_of};
-ghost use Rattle.aegis_c_calls.specs.JournalCalls.{JournalBegin, JournalCheck, JournalEntry, JournalFinal, JournalNext};
+ghost use Rattle.aegis_c_calls.specs.PageCalls.{JournalBegin, JournalCheck, JournalEntry, JournalFinal, JournalNext};
 
 use crate::by_variant::by_variant;
 use aegis_128::{State128X1, State128X2, State128X4};

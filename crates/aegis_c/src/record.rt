@@ -3,7 +3,7 @@
 //!
 //! Each returns a code of `aegis_c_calls::refusal`. After a code but that of an invalid tag, nothing has changed.
 
-ghost use Rattle.aegis_c_calls.specs.RecordCalls.{RecordBegin, RecordBeginOpen, RecordBeginOpenAt, RecordLen, RecordOpen, RecordSeal, RecordSealLast};
+ghost use Rattle.aegis_c_calls.specs.Calls.{RecordBegin, RecordBeginOpen, RecordBeginOpenAt, RecordLen, RecordOpen, RecordSeal, RecordSealLast};
 
 use aegis_c_calls::record;
 use aegis_c_calls::record::state::RecordState;

@@ -2,14 +2,15 @@
 //!
 //! Each returns a number of `aegis_c_calls::steps`.
 
-ghost use Rattle.aegis_c_calls.specs.StepCalls.{CommitStep, RecoveryStep};
+ghost use Rattle.aegis_c_calls.specs.PageCalls.{NumberedStep};
+ghost use Rattle.aegis_storage.specs.Steps.{commit_steps, recovery_steps};
 
 use aegis_c_calls::steps as calls;
 
 /// Returns the number of a step of a commit of so many writes. If it makes a write, `write` becomes its number.
 #[unsafe(no_mangle)]
 pub extern "C" fn hunkravy_proved_commit_step(number: u64, writes: u64, write: &mut u64) -> u32
-    ensures { CommitStep number writes write.old write.new result }
+    ensures { NumberedStep (commit_steps writes) number write.old write.new result }
 {
     calls::commit(number, writes, write)
 }
@@ -17,7 +18,7 @@ pub extern "C" fn hunkravy_proved_commit_step(number: u64, writes: u64, write: &
 /// The same for a recovery by a journal of so many writes.
 #[unsafe(no_mangle)]
 pub extern "C" fn hunkravy_proved_recovery_step(number: u64, writes: u64, write: &mut u64) -> u32
-    ensures { RecoveryStep number writes write.old write.new result }
+    ensures { NumberedStep (recovery_steps writes) number write.old write.new result }
 {
     calls::recovery(number, writes, write)
 }

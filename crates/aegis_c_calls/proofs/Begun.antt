@@ -1,12 +1,12 @@
 -- What a state stands for, before its first record and after one more.
 use Rattle.std.proofs.Common.{◌≡◌, ℕ, ◌+◌, ◌-◌, ◌∙◌, ◌≤◌, List, [], ◌∷◌, ◌++◌, length, ap, arith}
-use Rattle.aegis.specs.Progress.{Begun, record_of}
-use Rattle.aegis.specs.Records.{AreRecords}
-use Rattle.aegis.specs.RecordStream.{header}
+use Rattle.aegis.specs.Calls.{Begun, record_of}
+use Rattle.aegis.specs.RecordStream.{AreRecords, header}
 use Rattle.aegis.specs.declared.record.version.TheConstants.{MAX_MESSAGE_BYTES}
 use Rattle.aegis.specs.declared.record.version.Version.TheVariants.{Second}
 use Rattle.aegis.proofs.Stepwise.{begun_last, begun_more, begun_none, length-record}
-use Rattle.aegis_c_calls.specs.RecordCalls.{after_record, next_position, progress_of, state_at}
+use Rattle.aegis_c_calls.specs.Calls.{after_record, progress_of, state_at}
+use Rattle.aegis_c_calls.specs.Codes.{next_position}
 use Rattle.aegis_c_calls.specs.declared.record.state.RecordState.{RecordState}
 
 pub first_begun : (st : RecordState) (mark : ℕ) (key prefix context bytes : List ℕ) → st ≡ state_at mark 0 0 key prefix

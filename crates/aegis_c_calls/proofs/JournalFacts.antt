@@ -12,13 +12,13 @@ use Rattle.aegis_engine.specs.declared.saved.SavedContext.{SavedContext}
 use Rattle.aegis_pages.specs.Commits.{AreWritesOf, IsAccepted, IsOfCommit, head_bytes, journal_key}
 use Rattle.aegis_pages.specs.declared.header.FileHeader.{FileHeader}
 use Rattle.aegis_pages.proofs.CommitFacts.{false_is_not}
-use Rattle.aegis_storage.specs.Bytes.{part_at}
-use Rattle.aegis_storage.specs.Disk.{Writes}
-use Rattle.aegis_storage.specs.Journal.{IsContent, IsJournal, authenticated, entries, entry}
+use Rattle.aegis_storage.specs.Disk.{Writes, part_at}
+use Rattle.aegis_storage.specs.Private.{IsContent}
+use Rattle.aegis_storage.specs.Journal.{IsJournal, authenticated, entries, entry}
 use Rattle.aegis_storage.specs.declared.journal.TheConstants.{MAX_JOURNAL_BYTES}
 use Rattle.aegis_storage.specs.declared.store.TheConstants.{MAX_STORAGE_BYTES}
 use Rattle.aegis_storage.proofs.Journals.{entries_more, one_journal, same_entry, within_more}
-use Rattle.aegis_c_calls.specs.JournalCalls.{AreJournaled, HoldsWrites, IsHeaderIn, IsJournaling, MayBeEmptied, followed_by, header_block_of}
+use Rattle.aegis_c_calls.specs.PageCalls.{AreJournaled, HoldsWrites, IsHeaderIn, IsJournaling, MayBeEmptied, followed_by, header_block_of}
 use Rattle.aegis_c_calls.specs.declared.state.State.{State}
 use Rattle.aegis_c_calls.proofs.OneRecord.{one_header}
 

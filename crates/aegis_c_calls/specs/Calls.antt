@@ -1,22 +1,23 @@
--- What each call does, for the variant that its number names, or that its state has: the code that it returns, and the
--- bytes at its pointers before and after it. If no variant has the number, it changes nothing. A record has the name of
--- its call.
-use Rattle.std.specs.Prelude.{◌≡◌, ◌≢◌, ℕ, ℤ, List, [], Option, length, replicate}
-use Rattle.aegis_base.specs.Variant.{Variant}
+-- What each call does, for the variant that its number names, or its state has: the code that it returns, and the bytes at its
+-- pointers before and after it. If no variant has the number, it changes nothing. A record has the name of its call.
+use Rattle.std.specs.Prelude.{◌≡◌, ◌≢◌, ℕ, ℤ, List, [], Option, length, replicate, ◌+◌, ◌-◌, leb, drop, if◌then◌else◌, ◌≤◌, ◌∷◌, ◌++◌}
+use Rattle.aegis_base.specs.Variant.{Variant, Family256, key_length, max_aead_bytes}
 use Rattle.aegis_base.specs.Mac.{mac}
-use Rattle.aegis_base.specs.Message.{Opens, ciphertext, keystream, seal, tag as tag_of, xor_keystream}
+use Rattle.aegis_base.specs.Message.{Opens, ciphertext, keystream, seal, tag as tag_of, xor_keystream, erased_byte}
 use Rattle.aegis_engine.specs.Saved.{HasChecked, HasSealed, HasTaken, IsSaved}
-use Rattle.aegis_base.specs.Limits.{erased_byte}
-use Rattle.aegis_c_calls.specs.Codes.{checking_role, chunk_code, decrypting_role, encrypting_role, ended_state, final_code, lengths_code, mac_code, mac_final_code, mac_role, message_code, message_role, number_of, opened_code, success, variant_code, the}
-use Rattle.aegis_c_calls.specs.declared.refusal.Refusal.TheVariants.{InvalidTag}
+use Rattle.aegis_c_calls.specs.Codes.{checking_role, chunk_code, context_code, decrypting_role, encrypting_role, ended_state, state_code, tag_code, head_code, lengths_code, mac_code, mac_final_code, mac_role, message_code, message_role, next_position, number_of, opened_code, opening_mark, record_code, sealing_mark, success, the, variant_code}
+use Rattle.aegis_c_calls.specs.declared.refusal.Refusal.TheVariants.{InvalidTag, MessageTooLong, UnknownHeader}
 use Rattle.aegis_c_calls.specs.declared.state.State.{State}
+use Rattle.aegis.specs.Calls.{Begun, Progress, message_in, progress_at, record_of, with_message}
+use Rattle.aegis.specs.declared.record.version.Version.TheVariants.{Second}
+use Rattle.aegis_c_calls.specs.declared.record.state.RecordState.{RecordState}
+use Rattle.aegis.specs.RecordStream.{AreRecords, header, length_at, limit, start_at, record_overhead, prefix_bytes}
 
 -- The call encrypts the message `old` to `new`, and overwrites `tag` with the tag; or it changes nothing.
 pub record EncryptInPlace (variant : Option Variant) (key nonce ad old new tag tag' : List ℕ) (code : ℤ) : Type 0 where
   pub answered : code ≡ lengths_code variant (length key) (length nonce) (length old) (length ad) (length tag)
   pub sealed : code ≡ success → (new, tag') ≡ seal (the variant) (length tag) key nonce ad old
-  pub message_kept : code ≢ success → new ≡ old
-  pub tag_kept : code ≢ success → tag' ≡ tag
+  pub kept : code ≢ success → (new ≡ old) × (tag' ≡ tag)
 
 -- The call decrypts the ciphertext `old` to the message `new`. If no message is sealed to the ciphertext and the tag, it
 -- erases every byte; and if a length is wrong, it changes nothing.
@@ -65,8 +66,7 @@ pub record Begins (variant : Option Variant) (number role : ℕ) (key nonce ad :
   pub answered : code ≡ variant_code variant (length key) (length nonce) (message_code 0 (length ad) success)
   pub begun : code ≡ success → IsSaved (the variant) new.context key nonce ad []
   pub empty : code ≡ success → ciphertext (the variant) key nonce ad [] ≡ []
-  pub variant_is : code ≡ success → new.variant ≡ number
-  pub role_is : code ≡ success → new.role ≡ role
+  pub named : code ≡ success → (new.variant ≡ number) × (new.role ≡ role)
   pub kept : code ≢ success → new ≡ old
 
 -- The call encrypts the next bytes `plain` of the message to `sealed`; or it changes nothing.
@@ -75,18 +75,15 @@ pub record StateEncryptInPlace (variant : Option Variant) (old new : State) (pla
   pub taken : code ≡ success → HasTaken (the variant) old.context new.context plain
   pub written : code ≡ success → HasSealed (the variant) old.context plain sealed
   pub goes_on : code ≡ success → GoesOn old new encrypting_role
-  pub state_kept : code ≢ success → new ≡ old
-  pub kept : code ≢ success → sealed ≡ plain
+  pub kept : code ≢ success → (new ≡ old) × (sealed ≡ plain)
 
--- The call decrypts the next bytes `sealed` of the ciphertext to `plain`, before the tag is known; or it changes
--- nothing.
+-- The call decrypts the next bytes `sealed` of the ciphertext to `plain`, before the tag is known; or it changes nothing.
 pub record StateDecryptInPlaceUnverified (variant : Option Variant) (old new : State) (sealed plain : List ℕ) (code : ℤ) : Type 0 where
   pub answered : code ≡ chunk_code variant old message_role decrypting_role (length sealed)
   pub taken : code ≡ success → HasTaken (the variant) old.context new.context plain
   pub written : code ≡ success → HasSealed (the variant) old.context plain sealed
   pub goes_on : code ≡ success → GoesOn old new decrypting_role
-  pub state_kept : code ≢ success → new ≡ old
-  pub kept : code ≢ success → plain ≡ sealed
+  pub kept : code ≢ success → (new ≡ old) × (plain ≡ sealed)
 
 -- The call takes in the next bytes of the ciphertext, without writing the message; or it changes nothing. A message is
 -- checked or decrypted, and not both.
@@ -98,11 +95,10 @@ pub record StateDecryptCheck (variant : Option Variant) (old new : State) (seale
 
 -- The call overwrites `tag` with the tag of the message, and ends the state; or it changes nothing.
 pub record StateEncryptFinal (variant : Option Variant) (old new : State) (tag tag' : List ℕ) (code : ℤ) : Type 0 where
-  pub answered : code ≡ final_code variant old message_role encrypting_role (length tag)
+  pub answered : code ≡ state_code variant old message_role encrypting_role (tag_code (length tag))
   pub made : (key nonce ad m : List ℕ) → code ≡ success → IsSaved (the variant) old.context key nonce ad m → tag' ≡ tag_of (the variant) (length tag) key nonce ad m
   pub ended : code ≡ success → new ≡ ended_state
-  pub state_kept : code ≢ success → new ≡ old
-  pub kept : code ≢ success → tag' ≡ tag
+  pub kept : code ≢ success → (new ≡ old) × (tag' ≡ tag)
 
 -- The call returns `success` exactly if the message is sealed to its ciphertext and this tag, unless a length or the state
 -- is wrong. If no message is, it erases every byte of `opened`, which has as many as the message, or none, as after a check.
@@ -140,3 +136,99 @@ pub record MacFinalVerify (variant : Option Variant) (st : State) (expected : Li
   pub lengths : code ≡ number_of InvalidTag → mac_final_code variant st (length expected) ≡ success
   pub verified : (key nonce x : List ℕ) → code ≡ success → IsSaved (the variant) st.context key nonce [] x → expected ≡ mac (the variant) (length expected) key nonce x
   pub accepted : (key nonce x : List ℕ) → IsSaved (the variant) st.context key nonce [] x → expected ≡ mac (the variant) (length expected) key nonce x → code ≢ number_of InvalidTag
+
+-- ---- Calls on a record stream. A state stands for a stream of a context, which C passes to each call again.
+
+-- the progress that a state is of, in a stream of this context
+abbrev pub progress_of : RecordState → List ℕ → Progress
+progress_of st context = progress_at st.key st.prefix context (next_position st)
+
+-- a state at the record of this number, which so many bytes of messages come before
+abbrev pub state_at : (mark number before : ℕ) (key prefix : List ℕ) → RecordState
+state_at mark number before key prefix = record { mark = mark; number = number; before = before; key = key; prefix = prefix }
+
+-- a state after its end: zeros
+abbrev pub ended_stream : RecordState
+ended_stream = state_at 0 0 0 (replicate (key_length Family256) 0) (replicate prefix_bytes 0)
+
+-- the state after a record of so many bytes
+abbrev pub after_record : RecordState → ℕ → RecordState
+after_record st bytes = state_at st.mark (st.number + 1) (st.before + (bytes - record_overhead)) st.key st.prefix
+
+-- The call begins to seal a stream, and writes its header; or it changes nothing.
+pub record RecordBegin (key prefix context : List ℕ) (old new : RecordState) (bytes bytes' : List ℕ) (code : ℤ) : Type 0 where
+  pub answered : code ≡ context_code (length context) success
+  pub written : code ≡ success → bytes' ≡ header Second
+  pub first : code ≡ success → new ≡ state_at sealing_mark 0 0 key prefix
+  pub begun : code ≡ success → Begun (progress_of new context) [] bytes'
+  pub kept : code ≢ success → (new ≡ old) × (bytes' ≡ bytes)
+
+-- The call begins to open a stream, if this is its header; or it changes nothing.
+pub record RecordBeginOpen (key prefix context : List ℕ) (old new : RecordState) (bytes : List ℕ) (code : ℤ) : Type 0 where
+  pub answered : code ≢ number_of UnknownHeader → code ≡ context_code (length context) success
+  pub known : bytes ≡ header Second → code ≢ number_of UnknownHeader
+  pub unknown : bytes ≢ header Second → code ≡ number_of UnknownHeader
+  pub first : code ≡ success → new ≡ state_at opening_mark 0 0 key prefix
+  pub begun : code ≡ success → Begun (progress_of new context) [] bytes
+  pub state_kept : code ≢ success → new ≡ old
+
+-- The call begins to open a stream at the record of this number, which so many bytes of messages come before; or it changes
+-- nothing. Nothing is known of the records before it.
+pub record RecordBeginOpenAt (key prefix context : List ℕ) (number before : ℕ) (old new : RecordState) (code : ℤ) : Type 0 where
+  pub answered : code ≡ context_code (length context)
+      (if leb (start_at (next_position (state_at opening_mark number before key prefix))) max_aead_bytes then success else number_of MessageTooLong)
+  pub at : code ≡ success → new ≡ state_at opening_mark number before key prefix
+  pub state_kept : code ≢ success → new ≡ old
+
+-- The call seals the next message where it lies, and the bytes become its record; or it changes nothing.
+pub record RecordSeal (context : List ℕ) (old new : RecordState) (bytes bytes' : List ℕ) (code : ℤ) : Type 0 where
+  pub answered : code ≡ record_code old sealing_mark (length context) (length bytes)
+  pub sealed : code ≡ success → bytes' ≡ record_of (progress_of old context) 0 (message_in bytes)
+  pub after : code ≡ success → new ≡ after_record old (length bytes)
+  pub begun : code ≡ success → (ms : List (List ℕ)) (before : List ℕ)
+      → Begun (progress_of old context) ms before
+      → Begun (progress_of new context) (ms ++ message_in bytes ∷ []) (before ++ bytes')
+  pub kept : code ≢ success → (new ≡ old) × (bytes' ≡ bytes)
+
+-- The call seals the last message where it lies, and ends the state; or it changes nothing.
+pub record RecordSealLast (context : List ℕ) (old new : RecordState) (bytes bytes' : List ℕ) (code : ℤ) : Type 0 where
+  pub answered : code ≡ record_code old sealing_mark (length context) (length bytes)
+  pub sealed : code ≡ success → bytes' ≡ record_of (progress_of old context) 1 (message_in bytes)
+  pub ended : code ≡ success → new ≡ ended_stream
+  pub whole : code ≡ success → (ms : List (List ℕ)) (before : List ℕ)
+      → Begun (progress_of old context) ms before
+      → AreRecords Second old.key old.prefix context (ms ++ message_in bytes ∷ []) (before ++ bytes')
+  pub kept : code ≢ success → (new ≡ old) × (bytes' ≡ bytes)
+
+-- The call overwrites `old` with how many bytes the record has that begins with `head`; or it changes nothing.
+pub record RecordLen (st : RecordState) (head : List ℕ) (old new : ℕ) (code : ℤ) : Type 0 where
+  pub answered : code ≡ head_code st head
+  pub found : code ≡ success → new ≡ record_overhead + length_at (drop 1 head)
+  pub is_length : code ≡ success → (context : List ℕ) (flag : ℕ) (m body : List ℕ) → length m ≤ limit Second
+      → head ++ body ≡ record_of (progress_of st context) flag m → new ≡ length (head ++ body)
+  pub kept : code ≢ success → new ≡ old
+
+-- The call opens the next record, which `bytes` are: its message is written over its ciphertext, and `flag` becomes 1
+-- for the last record and 0 for another. After the last one it ends the state. If `bytes` are no next record it erases
+-- them all, and keeps the state; and if the state or a length is wrong, it changes nothing.
+pub record RecordOpen (context : List ℕ) (old new : RecordState) (bytes bytes' : List ℕ) (flag flag' : ℕ) (code : ℤ) : Type 0 where
+  pub answered : code ≢ number_of InvalidTag → code ≡ record_code old opening_mark (length context) (length bytes)
+  pub lengths : code ≡ number_of InvalidTag → record_code old opening_mark (length context) (length bytes) ≡ success
+  pub known : code ≡ success → flag' ≤ 1
+  -- the bytes are the record of this message, of no other, and of no other flag
+  pub opened : code ≡ success → bytes ≡ record_of (progress_of old context) flag' (message_in bytes')
+  pub one : code ≡ success → (f : ℕ) (m : List ℕ) → bytes ≡ record_of (progress_of old context) f m → (flag' ≡ f) × (message_in bytes' ≡ m)
+  pub written : code ≡ success → bytes' ≡ with_message bytes (message_in bytes')
+  pub accepted : (f : ℕ) (m : List ℕ) → f ≤ 1 → bytes ≡ record_of (progress_of old context) f m → code ≢ number_of InvalidTag
+  -- whatever messages the stream began with, this is the next one, or the last one
+  pub after : code ≡ success → flag' ≡ 0 → new ≡ after_record old (length bytes)
+  pub begun : code ≡ success → flag' ≡ 0 → (ms : List (List ℕ)) (before : List ℕ)
+      → Begun (progress_of old context) ms before
+      → Begun (progress_of new context) (ms ++ message_in bytes' ∷ []) (before ++ bytes)
+  pub ended : code ≡ success → flag' ≡ 1 → new ≡ ended_stream
+  pub whole : code ≡ success → flag' ≡ 1 → (ms : List (List ℕ)) (before : List ℕ)
+      → Begun (progress_of old context) ms before
+      → AreRecords Second old.key old.prefix context (ms ++ message_in bytes' ∷ []) (before ++ bytes)
+  pub erased : code ≡ number_of InvalidTag → bytes' ≡ replicate (length bytes) erased_byte
+  pub kept : code ≢ success → code ≢ number_of InvalidTag → bytes' ≡ bytes
+  pub state_kept : code ≢ success → (new ≡ old) × (flag' ≡ flag)

@@ -1,14 +1,18 @@
--- The variants by their numbers in C, the roles of a state, and the codes of C (`hunkravy.h`): the code that a call
--- returns, by what its body returns; and the one for its variant, for the lengths and for the state that it is given,
--- unless a tag is wrong.
-use Rattle.std.specs.Prelude.{ℕ, ◌==◌, pos, neg_ℤ, replicate, Option, Some, None, if◌then◌else◌, ℤ, ◌+◌, ◌||◌, leb, Result, Ok, Err}
-use Rattle.aegis_base.specs.Variant.{Variant, Aegis128L, Aegis128X2, Aegis128X4, Aegis256, Aegis256X2, Aegis256X4, key_length}
-use Rattle.aegis_base.specs.Limits.{max_aead_bytes}
+-- The variants by their numbers in C, the roles of a state, and the codes of C (`hunkravy.h`): the one that a call returns for
+-- its variant, for the lengths and for the state that it is given, unless a tag is wrong.
+use Rattle.std.specs.Prelude.{ℕ, ◌+◌, ◌-◌, List, ℤ, ◌==◌, leb, drop, get_or, nat_lt, if◌then◌else◌, replicate, pos, neg_ℤ, Option, Some, None, ◌||◌, ◌*◌}
+use Rattle.aegis.specs.declared.record.position.RecordPosition.{RecordPosition}
+use Rattle.aegis.specs.declared.record.version.Version.TheVariants.{Second}
+use Rattle.aegis_c_calls.specs.declared.record.state.RecordState.{RecordState}
+use Rattle.aegis.specs.RecordStream.{length_at, limit, max_context_bytes, start_at, record_overhead}
+use Rattle.aegis_c_calls.specs.declared.refusal.Refusal.TheVariants.{InvalidTag, MessageTooLong, ContextTooLong, UnknownHeader, WrongRecordLength, WrongState, WrongNonceLength, WrongKeyLength, DataTooLong, WrongTagLength, WrongVariant, WrongPageSize, FileTooLong, WrongMessageLength, WrongJournal}
+use Rattle.aegis_base.specs.Variant.{Aegis128L, Aegis128X2, Aegis128X4, Aegis256, Aegis256X2, Aegis256X4, Variant, key_length, long_tag_bytes, max_aead_bytes}
 use Rattle.aegis_engine.specs.Saved.{begun_mark}
 use Rattle.aegis_engine.specs.declared.saved.SavedContext.{SavedContext}
 use Rattle.aegis_c_calls.specs.declared.refusal.Refusal.{Refusal}
-use Rattle.aegis_c_calls.specs.declared.refusal.Refusal.TheVariants.{InvalidTag, WrongNonceLength, WrongKeyLength, MessageTooLong, DataTooLong, WrongTagLength, WrongState, WrongVariant, ContextTooLong, UnknownHeader, WrongRecordLength, WrongPageSize, FileTooLong, WrongMessageLength, WrongJournal}
 use Rattle.aegis_c_calls.specs.declared.state.State.{State}
+use Rattle.aegis_pages.specs.Layouts.{max_contents_bytes, max_page_bytes, min_page_bytes}
+use Rattle.aegis_storage.specs.Journal.{max_journal_bytes, max_storage_bytes, journal_start_bytes}
 
 -- the variant of a number, if it is one of the six
 abbrev pub variant_of : ℕ → Option Variant
@@ -69,7 +73,7 @@ ended_state =
       role = 0;
     }
 
--- ---- the code that a call returns
+-- ---- the code of a call
 
 -- of a call that succeeds
 abbrev pub success : ℤ
@@ -93,14 +97,9 @@ number_of FileTooLong = neg_ℤ (pos 13)
 number_of WrongMessageLength = neg_ℤ (pos 14)
 number_of WrongJournal = neg_ℤ (pos 15)
 
--- of what a body returns
-abbrev pub code_of : {Y : Type 0} → Result Y Refusal → ℤ
-code_of (Ok _) = success
-code_of (Err refusal) = number_of refusal
-
 -- for the length of a tag
 abbrev pub tag_code : ℕ → ℤ
-tag_code tag = if tag == 16 || tag == 32 then success else number_of WrongTagLength
+tag_code tag = if tag == 16 || tag == long_tag_bytes then success else number_of WrongTagLength
 
 -- for the lengths of a message and its associated data; `rest` is the code if both are allowed
 abbrev pub message_code : ℕ → ℕ → ℤ → ℤ
@@ -150,10 +149,6 @@ more_code st more = if leb (st.context.message_bytes + more) max_aead_bytes then
 abbrev pub chunk_code : Option Variant → State → ℕ → ℕ → ℕ → ℤ
 chunk_code variant st begun role more = state_code variant st begun role (more_code st more)
 
--- for a state and the length of the tag at its end
-abbrev pub final_code : Option Variant → State → ℕ → ℕ → ℕ → ℤ
-final_code variant st begun role tag = state_code variant st begun role (tag_code tag)
-
 -- the role that a message goes on in until its tag is verified
 unfoldable pub reading_role : State → ℕ
 reading_role st = if st.role == checking_role then checking_role else decrypting_role
@@ -173,4 +168,94 @@ opened_code variant st opened tag = state_code variant st message_role (reading_
 -- for a state and the length of its MAC; the state of a MAC has no associated data
 abbrev pub mac_final_code : Option Variant → State → ℕ → ℤ
 mac_final_code variant st tag =
-    if st.context.ad_bytes == 0 then final_code variant st mac_role mac_role tag else number_of WrongState
+    if st.context.ad_bytes == 0 then state_code variant st mac_role mac_role (tag_code tag) else number_of WrongState
+
+-- ---- of a call on a record stream
+
+-- the position of the next record
+abbrev pub next_position : RecordState → RecordPosition
+next_position st = record { version = Second; number = st.number; before = st.before }
+
+-- the marks of a stream that is sealed and of one that is opened: `aegis_rs` and `aegis_ro` in ASCII
+abbrev pub sealing_mark : ℕ
+sealing_mark = 0x6165_6769_735f_7273
+
+abbrev pub opening_mark : ℕ
+opening_mark = 0x6165_6769_735f_726f
+
+-- for the length of a context; `rest` is the code if it is allowed
+abbrev pub context_code : ℕ → ℤ → ℤ
+context_code context rest = if leb context max_context_bytes then rest else number_of ContextTooLong
+
+-- for a state that should have this mark; `rest` is the code if it has, and its stream is not past the limit
+abbrev pub mark_code : RecordState → ℕ → ℤ → ℤ
+mark_code st mark rest =
+    if st.mark == mark then (if leb (start_at (next_position st)) max_aead_bytes then rest else number_of WrongState) else number_of WrongState
+
+-- for the length of the next record, which should have room for its head and its tag, and be within its limit and the stream's
+abbrev pub length_code : RecordState → ℕ → ℤ → ℤ
+length_code st bytes rest =
+    if leb record_overhead bytes
+    then (if leb bytes (record_overhead + limit Second)
+    then (if leb (start_at (next_position st) + bytes) max_aead_bytes then rest else number_of MessageTooLong)
+    else number_of MessageTooLong)
+    else number_of WrongRecordLength
+
+-- for a state that should have this mark, the length of the context, and that of the next record
+abbrev pub record_code : RecordState → ℕ → ℕ → ℕ → ℤ
+record_code st mark context bytes = mark_code st mark (length_code st bytes (context_code context success))
+
+-- for the head of a record: a flag of 0 or 1, and a length within the limit
+abbrev pub head_code : RecordState → List ℕ → ℤ
+head_code st head =
+    mark_code st opening_mark (if nat_lt 1 (get_or head 0 0) then number_of InvalidTag
+    else if leb (length_at (drop 1 head)) (limit Second) then success else number_of MessageTooLong)
+
+-- ---- of a call on a page or a header
+
+-- for a page size of n bytes; `rest` is the code if it is one
+abbrev pub size_code : ℕ → ℤ → ℤ
+size_code n rest = if leb min_page_bytes n then (if leb n max_page_bytes then rest else number_of WrongPageSize) else number_of WrongPageSize
+
+-- for a place in the contents, or for its length
+abbrev pub contents_code : ℕ → ℤ
+contents_code n = if leb n max_contents_bytes then success else number_of FileTooLong
+
+-- for the length of a page whose nonce has n bytes, and for its number: it has the nonce and a tag more than its contents
+abbrev pub place_code : (n bytes number : ℕ) → ℤ
+place_code n bytes number = size_code (bytes - (n + long_tag_bytes)) (contents_code (number * (bytes - (n + long_tag_bytes))))
+
+-- for the page size and the length of the contents in a header
+abbrev pub header_code : ℕ → ℕ → ℤ
+header_code page_bytes len = size_code page_bytes (contents_code len)
+
+-- for a variant, if there is one, and the length of a key; `rest` is the code if it is right
+abbrev pub keyed_code : Option Variant → ℕ → ℤ → ℤ
+keyed_code (Some variant) key rest = if key == key_length variant.family then rest else number_of WrongKeyLength
+keyed_code None key rest = number_of WrongVariant
+
+-- for a call that seals a page
+abbrev pub page_seal_code : Option Variant → (key nonce bytes number : ℕ) → ℤ
+page_seal_code variant key nonce bytes number = variant_code variant key nonce (place_code (key_bytes_of variant) bytes number)
+
+-- for a call that opens a page
+abbrev pub page_open_code : Option Variant → (key bytes number : ℕ) → ℤ
+page_open_code variant key bytes number = keyed_code variant key (place_code (key_bytes_of variant) bytes number)
+
+-- for a call that seals a header
+abbrev pub header_seal_code : Option Variant → (key nonce page_bytes len : ℕ) → ℤ
+header_seal_code variant key nonce page_bytes len = variant_code variant key nonce (header_code page_bytes len)
+
+-- ---- of a call on a journal
+
+-- for a state that should be a journal; `rest` is the code if it is one
+abbrev pub journal_code : State → ℤ → ℤ
+journal_code st rest = if st.context.ad_bytes == 0 then role_code st journal_role journal_role rest else number_of WrongState
+
+-- for the next write, of so many bytes: it ends within a storage, and the journal within its limit, which has more
+-- than its MAC has taken in: what is before the first write, 8 bytes more before this one than the MAC has of its context, and the MAC
+abbrev pub entry_code : State → (place bytes : ℕ) → ℤ
+entry_code st place bytes =
+    journal_code st (if leb (place + bytes) max_storage_bytes
+    then (if leb (st.context.message_bytes + (bytes + (journal_start_bytes + 8 + long_tag_bytes))) max_journal_bytes then success else number_of FileTooLong)
+    else number_of FileTooLong)

@@ -1,53 +1,20 @@
--- What each call on a page or a header does, for the variant that its number names: the code that it returns, and the bytes
--- at its pointers before and after it. If no variant has the number, it changes nothing. Files are those of `aegis_pages`.
--- A record has the name of its call.
-use Rattle.std.specs.Prelude.{ℕ, ℤ, ◌+◌, ◌-◌, ◌*◌, ◌==◌, leb, Option, Some, None, if◌then◌else◌, ◌≡◌, ◌≢◌, List, drop, length, replicate, take}
-use Rattle.aegis_base.specs.Variant.{Variant, key_length}
-use Rattle.aegis_base.specs.Limits.{erased_byte}
-use Rattle.aegis_c_calls.specs.Codes.{number_of, success, variant_code, key_bytes_of, the}
-use Rattle.aegis_c_calls.specs.declared.refusal.Refusal.TheVariants.{FileTooLong, InvalidTag, WrongKeyLength, WrongPageSize, WrongVariant}
-use Rattle.aegis_pages.specs.Layouts.{IsHeaderBlock, Layout, OpensAt, max_contents_bytes, max_page_bytes, min_page_bytes}
+-- What each call on a page, a header or a journal of `aegis_pages` does, for the variant that its number names: the code that it
+-- returns, and the bytes at its pointers before and after it. If no variant has the number, it changes nothing.
+use Rattle.std.specs.Prelude.{ℕ, ℤ, ◌+◌, ◌-◌, leb, Option, Some, None, if◌then◌else◌, ◌≡◌, ◌≢◌, List, drop, length, replicate, take, ◌<◌, ◌≤◌, [], ◌∷◌, ◌++◌}
+use Rattle.aegis_base.specs.Variant.{Aegis128L, Variant, key_length, long_tag_bytes}
+use Rattle.aegis_base.specs.Message.{erased_byte}
+use Rattle.aegis_c_calls.specs.Codes.{ended_state, entry_code, header_code, header_seal_code, journal_code, keyed_code, number_of, page_open_code, page_seal_code, success, the}
+use Rattle.aegis_c_calls.specs.declared.refusal.Refusal.TheVariants.{InvalidTag, WrongJournal, WrongRecordLength}
+use Rattle.aegis_pages.specs.Layouts.{IsHeaderBlock, Layout, OpensAt, journal_beginning, plaintext_header_bytes, header_block_bytes}
 use Rattle.aegis_pages.specs.declared.header.FileHeader.{FileHeader}
-use Rattle.aegis_storage.specs.Bytes.{part_at}
-
--- ---- the code that a call returns for the variant, the lengths and the number that it is given, unless a page or a header
--- does not open
-
--- for a page size of n bytes; `rest` is the code if it is one
-abbrev pub size_code : ℕ → ℤ → ℤ
-size_code n rest = if leb min_page_bytes n then (if leb n max_page_bytes then rest else number_of WrongPageSize) else number_of WrongPageSize
-
--- for a place in the contents, or for its length
-abbrev pub contents_code : ℕ → ℤ
-contents_code n = if leb n max_contents_bytes then success else number_of FileTooLong
-
--- for the length of a page whose nonce has n bytes, and for its number: it has the nonce and a tag of 32 bytes more than
--- its contents
-abbrev pub place_code : (n bytes number : ℕ) → ℤ
-place_code n bytes number = size_code (bytes - (n + 32)) (contents_code (number * (bytes - (n + 32))))
-
--- for the page size and the length of the contents in a header
-abbrev pub header_code : ℕ → ℕ → ℤ
-header_code page_bytes len = size_code page_bytes (contents_code len)
-
--- for a variant, if there is one, and the length of a key; `rest` is the code if it is right
-abbrev pub keyed_code : Option Variant → ℕ → ℤ → ℤ
-keyed_code (Some variant) key rest = if key == key_length variant.family then rest else number_of WrongKeyLength
-keyed_code None key rest = number_of WrongVariant
-
--- for a call that seals a page
-abbrev pub page_seal_code : Option Variant → (key nonce bytes number : ℕ) → ℤ
-page_seal_code variant key nonce bytes number = variant_code variant key nonce (place_code (key_bytes_of variant) bytes number)
-
--- for a call that opens a page
-abbrev pub page_open_code : Option Variant → (key bytes number : ℕ) → ℤ
-page_open_code variant key bytes number = keyed_code variant key (place_code (key_bytes_of variant) bytes number)
-
--- for a call that seals a header
-abbrev pub header_seal_code : Option Variant → (key nonce page_bytes len : ℕ) → ℤ
-header_seal_code variant key nonce page_bytes len = variant_code variant key nonce (header_code page_bytes len)
-
--- ---- calls
+use Rattle.aegis_storage.specs.Disk.{Writes, part_at}
+use Rattle.aegis_engine.specs.Saved.{IsSaved}
+use Rattle.aegis_c_calls.specs.declared.state.State.{State}
+use Rattle.aegis_pages.specs.Commits.{IsAccepted, IsOfCommit, head_bytes, journal_key}
+use Rattle.aegis_storage.specs.Journal.{AreWithin, IsJournal, authenticated, entries, entry, max_journal_bytes, max_storage_bytes, journal_start_bytes, journal_beginning_bytes}
+use Rattle.aegis_storage.specs.Steps.{step_at}
+use Rattle.aegis_storage.specs.declared.steps.Step.{Step}
+use Rattle.aegis_storage.specs.declared.steps.Step.TheVariants.{Done, EmptyJournal, MakeWrite, ReplaceJournal, SyncJournal, SyncStorage, WriteBeginning, WriteRest}
 
 -- what the sealed pages of a file are sealed under
 abbrev pub file_of : (variant : Variant) (key id : List ℕ) (page_bytes : ℕ) → Layout
@@ -55,7 +22,7 @@ file_of variant key id page_bytes = record { variant = variant; key = key; page_
 
 -- how many bytes a page has more than its contents
 abbrev pub added_bytes : Variant → ℕ
-added_bytes variant = key_length variant.family + 32
+added_bytes variant = key_length variant.family + long_tag_bytes
 
 -- the bytes of a page between its nonce and its tag
 abbrev pub contents_in : Variant → List ℕ → List ℕ
@@ -69,8 +36,7 @@ IsPageOf variant key id number page m = OpensAt (file_of variant key id (length 
 abbrev pub header_of : (page_bytes : ℕ) (id : List ℕ) (counter len : ℕ) → FileHeader
 header_of page_bytes id counter len = record { page_bytes = page_bytes; id = id; counter = counter; len = len }
 
--- The call seals the contents in `page` where they lie, and the page then opens to it at its number; or it changes
--- nothing.
+-- The call seals the contents in `page` where they lie, and the page opens to them at its number; or it changes nothing.
 pub record PageSeal (variant : Option Variant) (key id nonce : List ℕ) (number : ℕ) (page page' : List ℕ) (code : ℤ) : Type 0 where
   pub answered : code ≡ page_seal_code variant (length key) (length nonce) (length page) number
   pub sealed : code ≡ success → IsPageOf (the variant) key id number page' (contents_in (the variant) page)
@@ -93,15 +59,14 @@ pub record PageOpen (variant : Option Variant) (key id : List ℕ) (number : ℕ
 pub record PageHeaderSeal (variant : Option Variant) (key id nonce : List ℕ) (page_bytes counter len : ℕ) (header_block header_block' : List ℕ) (code : ℤ) : Type 0 where
   pub answered : code ≡ header_seal_code variant (length key) (length nonce) page_bytes len
   pub sealed : code ≡ success → IsHeaderBlock (file_of (the variant) key id page_bytes) counter len header_block'
-  pub under : code ≡ success → part_at header_block' 33 (key_length (the variant).family) ≡ nonce
+  pub under : code ≡ success → part_at header_block' plaintext_header_bytes (key_length (the variant).family) ≡ nonce
   pub kept : code ≢ success → header_block' ≡ header_block
 
 -- the header block has this header, which was sealed under the key
 abbrev pub HasHeader : (variant : Variant) (key header_block : List ℕ) (header : FileHeader) → Type 0
 HasHeader variant key header_block header = IsHeaderBlock (file_of variant key header.id header.page_bytes) header.counter header.len header_block
 
--- The call finds the header in `header_block`, if it was sealed under the key, and overwrites `old` with what it names;
--- or it changes nothing.
+-- The call finds the header in `header_block`, if it was sealed under the key, and writes it over `old`; or it changes nothing.
 pub record PageHeaderOpen (variant : Option Variant) (key header_block : List ℕ) (old new : FileHeader) (code : ℤ) : Type 0 where
   pub answered : code ≢ number_of InvalidTag → code ≡ keyed_code variant (length key) success
   pub lengths : code ≡ number_of InvalidTag → keyed_code variant (length key) success ≡ success
@@ -110,3 +75,123 @@ pub record PageHeaderOpen (variant : Option Variant) (key header_block : List �
   pub one : code ≡ success → (header : FileHeader) → HasHeader (the variant) key header_block header → header ≡ new
   pub accepted : (header : FileHeader) → HasHeader (the variant) key header_block header → code ≢ number_of InvalidTag
   pub kept : code ≢ success → new ≡ old
+
+-- ---- writing a journal: one of `aegis_storage`, under the key and the beginning that `aegis_pages` has for a file
+
+-- bytes, and the bytes that are written after them
+unfoldable pub followed_by : List ℕ → List ℕ → List ℕ
+followed_by bytes more = bytes ++ more
+
+-- The state and the bytes that were written are those of a journal under this key, of all writes but the rest, still to come.
+pub record IsJournaling (key : List ℕ) (all rest : Writes) (st : State) (bytes : List ℕ) : Type 0 where
+  -- what the journal begins with, with its nonce, and the writes so far
+  pub start : List ℕ
+  pub writes : Writes
+  pub start_size : length start ≡ journal_start_bytes
+  pub split : all ≡ writes ++ rest
+  pub written : bytes ≡ start ++ entries writes
+  pub within : AreWithin writes
+  pub fits : length (entries writes) + (journal_start_bytes + long_tag_bytes) ≤ max_journal_bytes
+  pub saved : IsSaved Aegis128L st.context key (drop journal_beginning_bytes start) [] (authenticated [] (entries writes))
+
+-- The call begins a journal of any writes, and overwrites `start` with what it begins with; or it changes nothing.
+pub record JournalBegin (variant : Option Variant) (key id nonce : List ℕ) (page_bytes : ℕ) (old new : State) (start start' : List ℕ) (code : ℤ) : Type 0 where
+  pub answered : code ≡ keyed_code variant (length key) (header_code page_bytes 0)
+  pub begun : (all : Writes) → code ≡ success → IsJournaling (journal_key (the variant) key) all all new start'
+  pub written : code ≡ success → start' ≡ journal_beginning (file_of (the variant) key id page_bytes) ++ nonce
+  pub kept : code ≢ success → (new ≡ old) × (start' ≡ start)
+
+-- The call takes in the next write, and overwrites `head` with what it has in front of its bytes; or it changes nothing.
+pub record JournalEntry (place : ℕ) (bytes : List ℕ) (old new : State) (head head' : List ℕ) (code : ℤ) : Type 0 where
+  pub answered : code ≡ entry_code old place (length bytes)
+  pub taken : (key : List ℕ) (all rest : Writes) (before : List ℕ) → code ≡ success → IsJournaling key all ((place, bytes) ∷ rest) old before → IsJournaling key all rest new (followed_by (followed_by before head') bytes)
+  pub written : code ≡ success → head' ++ bytes ≡ entry (place, bytes)
+  pub kept : code ≢ success → (new ≡ old) × (head' ≡ head)
+
+-- The call overwrites `mac` with the MAC with which the journal ends, and ends the state; or it changes nothing. With the
+-- MAC, what was written is then a journal of all the writes.
+pub record JournalFinal (old new : State) (mac mac' : List ℕ) (code : ℤ) : Type 0 where
+  pub answered : code ≡ journal_code old success
+  pub whole : (key : List ℕ) (all : Writes) (before : List ℕ) → code ≡ success → IsJournaling key all [] old before → IsJournal key [] all (followed_by before mac')
+  pub ended : code ≡ success → new ≡ ended_state
+  pub kept : code ≢ success → (new ≡ old) × (mac' ≡ mac)
+
+-- ---- reading a journal
+
+-- the bytes are those of the writes, as a journal has them
+unfoldable pub HoldsWrites : Writes → List ℕ → Type 0
+HoldsWrites writes bytes = AreWithin writes × (bytes ≡ entries writes)
+
+-- the block of the header of a file that begins with these bytes, if they are as many
+abbrev pub header_block_of : List ℕ → Option (List ℕ)
+header_block_of file = if leb header_block_bytes (length file) then Some (take header_block_bytes file) else None
+
+-- what a file that begins with these bytes has as its header
+abbrev pub IsHeaderIn : (variant : Variant) (key file : List ℕ) → Option FileHeader → Type 0
+IsHeaderIn variant key file (Some header) = (header_block_bytes ≤ length file) × HasHeader variant key (take header_block_bytes file) header
+IsHeaderIn variant key file None = (header : FileHeader) → header_block_bytes ≤ length file → HasHeader variant key (take header_block_bytes file) header → ⊥
+
+-- the writes of a whole journal under the file's key, or none for other bytes
+abbrev pub AreJournaled : (variant : Variant) (key journal : List ℕ) → Option Writes → Type 0
+AreJournaled variant key journal (Some writes) = IsJournal (journal_key variant key) [] writes journal
+AreJournaled variant key journal None = (writes : Writes) → IsJournal (journal_key variant key) [] writes journal → ⊥
+
+-- the journal may be made again, or emptied
+abbrev pub MayBeEmptied : (variant : Variant) (key file journal : List ℕ) → Type 0
+MayBeEmptied variant key file journal =
+    (header : Option FileHeader) × (writes : Option Writes) × IsHeaderIn variant key file header × AreJournaled variant key journal writes
+    × IsAccepted variant key (header_block_of file) header writes journal
+
+-- The call returns `success` exactly if the journal may be made again, or emptied, unless the variant or the length of the key
+-- is wrong. Then `bytes` becomes the length of its writes if it is whole, and 0 if it is not.
+pub record JournalCheck (variant : Option Variant) (key file journal : List ℕ) (bytes bytes' : ℕ) (code : ℤ) : Type 0 where
+  pub answered : code ≢ number_of InvalidTag → code ≢ number_of WrongJournal → code ≡ keyed_code variant (length key) success
+  pub lengths : code ≡ number_of InvalidTag → keyed_code variant (length key) success ≡ success
+  pub other : code ≡ number_of WrongJournal → keyed_code variant (length key) success ≡ success
+  pub accepted : code ≡ success → MayBeEmptied (the variant) key file journal
+  pub complete : MayBeEmptied (the variant) key file journal → keyed_code variant (length key) success ≡ success → code ≡ success
+  -- also known without the header: a whole journal whose commit began or ended with the first bytes of the file
+  pub own : (writes : Writes) → IsJournal (journal_key (the variant) key) [] writes journal → header_block_bytes ≤ length file → IsOfCommit (take (head_bytes (the variant)) (take header_block_bytes file)) writes
+      → keyed_code variant (length key) success ≡ success → code ≡ success
+  -- without a header, and with one
+  pub none : code ≡ number_of InvalidTag → IsHeaderIn (the variant) key file None
+  pub named : code ≡ number_of WrongJournal → (header : FileHeader) × IsHeaderIn (the variant) key file (Some header)
+  pub whole : (writes : Writes) → code ≡ success → IsJournal (journal_key (the variant) key) [] writes journal → HoldsWrites writes (part_at journal journal_start_bytes bytes')
+  pub torn : code ≡ success → AreJournaled (the variant) key journal None → bytes' ≡ 0
+  -- the writes lie in the journal
+  pub within : code ≡ success → 0 < bytes' → journal_start_bytes + bytes' ≤ length journal
+  pub kept : code ≢ success → bytes' ≡ bytes
+
+-- The call finds the first of the writes, if there is one: its place, and the length of its bytes.
+pub record JournalNext (writes : List ℕ) (place place' len len' : ℕ) (code : ℤ) : Type 0 where
+  pub answered : code ≢ number_of WrongRecordLength → code ≡ success
+  pub found : code ≡ success → writes ≡ entry (place', part_at writes 16 len') ++ drop (16 + len') writes
+  pub within : code ≡ success → place' + len' ≤ max_storage_bytes
+  pub long : code ≡ success → 16 + len' ≤ length writes
+  -- it is the first of those that the bytes hold, and no other
+  pub one : (write : ℕ × List ℕ) (after : Writes) → HoldsWrites (write ∷ after) writes
+      → (code ≡ success) × ((place', part_at writes 16 len') ≡ write) × HoldsWrites after (drop (16 + len') writes)
+  pub kept : code ≢ success → (place' ≡ place) × (len' ≡ len)
+
+-- ---- the order of the calls of a commit and of a recovery: the steps of `aegis_storage`, by their numbers
+
+-- the number of a step in C
+abbrev pub number_of_step : Step → ℕ
+number_of_step Done = 0
+number_of_step WriteBeginning = 1
+number_of_step WriteRest = 2
+number_of_step SyncJournal = 3
+number_of_step ReplaceJournal = 4
+number_of_step (MakeWrite write) = 5
+number_of_step SyncStorage = 6
+number_of_step EmptyJournal = 7
+
+-- the number of the write that a step makes; a step that makes none leaves what there was
+abbrev pub write_of_step : Step → (before : ℕ) → ℕ
+write_of_step (MakeWrite write) before = write
+write_of_step _ before = before
+
+-- The call returns the number of one of the steps, and sets `write` to the number of the write that it makes, if any.
+pub record NumberedStep (steps : List Step) (number write write' answer : ℕ) : Type 0 where
+  pub answered : answer ≡ number_of_step (step_at steps number)
+  pub made : write' ≡ write_of_step (step_at steps number) write

@@ -5,11 +5,11 @@
 ghost use Rattle.std.specs.Prelude.{◌≡◌, ◌≢◌, ◌+◌, ◌≤◌, ◌∷◌, [], ℕ, ℤ, IfErr, IsOk, List, OnOk, Some, length};
 ghost use Rattle.aegis_base.specs.Variant.{Aegis128L, key_length};
 ghost use Rattle.aegis_engine.specs.Saved.{HasTaken};
-ghost use Rattle.aegis_c_calls.specs.Codes.{code_of, number_of, success};
-ghost use Rattle.aegis_storage.specs.Bytes.{part_at};
-ghost use Rattle.aegis_storage.specs.Disk.{Writes};
+ghost use Rattle.aegis_c_calls.specs.Private.{IsJournaled, IsOwnCommit, IsWhole, code_of};
+ghost use Rattle.aegis_c_calls.specs.Codes.{entry_code, journal_code, number_of, success};
+ghost use Rattle.aegis_storage.specs.Disk.{Writes, part_at};
 ghost use Rattle.aegis_pages.specs.Commits.{journal_key};
-ghost use Rattle.aegis_c_calls.specs.JournalCalls.{HoldsWrites, IsHeaderIn, IsJournaled, IsOwnCommit, IsWhole, JournalBegin, JournalCheck, JournalEntry, JournalFinal, JournalNext, entry_code, followed_by, header_block_of, journal_code};
+ghost use Rattle.aegis_c_calls.specs.PageCalls.{HoldsWrites, IsHeaderIn, JournalBegin, JournalCheck, JournalEntry, JournalFinal, JournalNext, followed_by, header_block_of};
 
 use crate::keys::key_alone;
 use crate::page::check::check_header;

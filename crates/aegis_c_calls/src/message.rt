@@ -3,7 +3,8 @@
 ghost use Rattle.std.specs.Prelude.{◌≡◌};
 ghost use Rattle.aegis_base.specs.Variant.{key_length};
 ghost use Rattle.aegis_c_calls.specs.Calls.{DecryptInPlace, EncryptInPlace, Mac, MacVerify, Stream, StreamXorInPlace};
-ghost use Rattle.aegis_c_calls.specs.Codes.{code_of, lengths_code};
+ghost use Rattle.aegis_c_calls.specs.Private.{code_of};
+ghost use Rattle.aegis_c_calls.specs.Codes.{lengths_code};
 
 use crate::keys::{message_keys, nonce_and_key};
 use crate::refusal::Refusal;

@@ -3,7 +3,7 @@
 
 ghost use Rattle.std.specs.Prelude.{◌≡◌, Some};
 ghost use Rattle.aegis_base.specs.Variant.{key_length};
-ghost use Rattle.aegis_c_calls.specs.Codes.{code_of};
+ghost use Rattle.aegis_c_calls.specs.Private.{code_of};
 ghost use Rattle.aegis_c_calls.specs.PageCalls.{PageHeaderOpen, PageOpen, PageHeaderSeal, PageSeal, header_of};
 
 use crate::keys::{key_alone, nonce_and_key};

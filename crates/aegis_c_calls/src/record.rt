@@ -8,8 +8,9 @@
 ghost use Rattle.std.specs.Prelude.{◌≡◌, ◌+◌, ◌≤◌};
 ghost use Rattle.aegis_base.specs.declared.error.TheConstants.{MAX_AEAD_BYTES};
 ghost use Rattle.aegis.specs.RecordStream.{start_at};
-ghost use Rattle.aegis_c_calls.specs.Codes.{code_of};
-ghost use Rattle.aegis_c_calls.specs.RecordCalls.{RecordBegin, RecordBeginOpen, RecordBeginOpenAt, RecordLen, RecordOpen, RecordSeal, RecordSealLast, after_record, state_at, next_position};
+ghost use Rattle.aegis_c_calls.specs.Private.{code_of};
+ghost use Rattle.aegis_c_calls.specs.Calls.{RecordBegin, RecordBeginOpen, RecordBeginOpenAt, RecordLen, RecordOpen, RecordSeal, RecordSealLast, after_record, state_at};
+ghost use Rattle.aegis_c_calls.specs.Codes.{next_position};
 
 use crate::refusal::Refusal;
 use aegis::ERASED;

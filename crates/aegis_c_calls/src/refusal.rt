@@ -1,7 +1,8 @@
 //! Why a call is refused, and the code that C has for it.
 
 ghost use Rattle.std.specs.Prelude.{◌≡◌};
-ghost use Rattle.aegis_c_calls.specs.Codes.{code_of, number_of};
+ghost use Rattle.aegis_c_calls.specs.Private.{code_of};
+ghost use Rattle.aegis_c_calls.specs.Codes.{number_of};
 
 /// Why a call is refused. After each but [`Refusal::InvalidTag`] nothing has changed.
 #[derive(Clone, Copy)]

@@ -4,7 +4,8 @@
 ghost use Rattle.std.specs.Prelude.{◌≡◌, ◌≢◌, ◌+◌, ◌≤◌, ℤ, IfErr, OnOk};
 ghost use Rattle.aegis_base.specs.Variant.{key_length};
 ghost use Rattle.aegis_c_calls.specs.Calls.{Begins, MacFinal, MacFinalVerify, MacUpdate, StateDecryptCheck, StateDecryptFinal, StateDecryptInPlaceUnverified, StateEncryptFinal, StateEncryptInPlace};
-ghost use Rattle.aegis_c_calls.specs.Codes.{chunk_code, code_of, given_code, more_code, number_of, reading_role, role_code, success};
+ghost use Rattle.aegis_c_calls.specs.Codes.{chunk_code, given_code, more_code, number_of, reading_role, role_code, success};
+ghost use Rattle.aegis_c_calls.specs.Private.{code_of};
 
 use crate::keys::message_keys;
 use crate::refusal::Refusal;

@@ -1,7 +1,8 @@
 //! The calls on the order of a commit and of a recovery: a driver in C asks for one step after the other, and takes it.
 
 ghost use Rattle.std.specs.Prelude.{◌≡◌};
-ghost use Rattle.aegis_c_calls.specs.StepCalls.{CommitStep, RecoveryStep, number_of_step, write_of_step};
+ghost use Rattle.aegis_c_calls.specs.PageCalls.{NumberedStep, number_of_step, write_of_step};
+ghost use Rattle.aegis_storage.specs.Steps.{commit_steps, recovery_steps};
 
 use aegis_storage::{Step, commit_step, recovery_step};
 
@@ -53,7 +54,7 @@ fn answer(step: Step, write: &mut u64) -> u32
 /// last step. If it is [`MAKE_WRITE`], `write` becomes the number of the write, the first being 0.
 #[inline(never)]
 pub fn commit(number: u64, writes: u64, write: &mut u64) -> u32
-    ensures { CommitStep number writes write.old write.new result }
+    ensures { NumberedStep (commit_steps writes) number write.old write.new result }
 {
     answer(commit_step(number, writes), write)
 }
@@ -61,7 +62,7 @@ pub fn commit(number: u64, writes: u64, write: &mut u64) -> u32
 /// The same for a recovery by a journal of so many writes. One that is not whole has none.
 #[inline(never)]
 pub fn recovery(number: u64, writes: u64, write: &mut u64) -> u32
-    ensures { RecoveryStep number writes write.old write.new result }
+    ensures { NumberedStep (recovery_steps writes) number write.old write.new result }
 {
     answer(recovery_step(number, writes), write)
 }

@@ -1,12 +1,11 @@
 //! Sealed files in memory.
 
-ghost use Rattle.std.specs.Prelude.{◌≡◌, ◌+◌, ◌*◌, ◌<◌, ◌≤◌, IfErr, IfOk, List, length, ℕ};
+ghost use Rattle.std.specs.Prelude.{◌≡◌, ◌+◌, ◌*◌, ◌<◌, ◌≤◌, Err, IfErr, IfOk, List, length, ℕ};
 ghost use Rattle.aegis_base.specs.declared.error.TheConstants.{MAX_AEAD_BYTES};
 ghost use Rattle.aegis.specs.RecordStream.{start_at};
-ghost use Rattle.aegis_files.specs.Range.{AreFrom, AreContentsFrom, part_of, part_of_contents};
+ghost use Rattle.aegis_files.specs.Opening.{AreContentsFrom, AreFrom, IsFileInPieces, IsFileOf, IsSealedFile, part_of, part_of_contents, pieces_in};
 ghost use Rattle.aegis.specs.declared.record.error.RecordError.{RecordError};
 ghost use Rattle.aegis.specs.declared.record.version.Version.TheVariants.{Second};
-ghost use Rattle.aegis_files.specs.SealedFile.{IsFileInPieces, IsFileOf, IsSealedFile, pieces_in};
 
 use aegis::aegis256::Key;
 use aegis::record::{MAX_CONTEXT_BYTES, RecordError};
@@ -15,6 +14,7 @@ use aegis_files::{ContentsRange, FileError, open_range, open_stream, rekey_strea
 use std::alloc::Allocator;
 
 /// Seals contents, and returns the file: it has 65 bytes more than the contents, and 37 for each piece of 65,536 bytes.
+/// No error names a fault of the stream.
 pub fn seal_contents<A: Allocator + Copy>(
     alloc: A,
     key: &Key,
@@ -29,6 +29,8 @@ pub fn seal_contents<A: Allocator + Copy>(
         (λ file. IsSealedFile key.now context.now contents.now file.items) }
     ensures size { IfOk result (λ file. length file.items
         ≡ 65 + 37 * pieces_in (length contents.now) + length contents.now) }
+    ensures memory { (why : RecordError) → result ≡ Err (FileError.Stream why)
+        → why ≡ RecordError.OutOfMemory }
 {
     let mut file = Vec::new(alloc);
     let mut input = contents;

@@ -10,7 +10,8 @@ use Rattle.std.specs.Int.Bits.{xor_zero_l}
 use Rattle.aegis_aes.specs.Block.{bytes_at}
 use Rattle.aegis_aes.specs.Lanes.{IsLaneCount}
 use Rattle.aegis_aes.proofs.Places.{bytes_at-is, get_or-bytes_at, length-bytes_at}
-use Rattle.aegis_base.specs.Context.{Encrypts, Held, IsUnopened, Takes, held_by}
+use Rattle.aegis_base.specs.Context.{Encrypts, Held, Takes, held_by}
+use Rattle.aegis_base.specs.Private.{IsUnopened}
 use Rattle.aegis_base.specs.Lane.{update}
 use Rattle.aegis_base.specs.Message.{keystream_byte, share_at}
 use Rattle.aegis_base.specs.Variant.{Variant, rate}

@@ -2,12 +2,7 @@
 use Rattle.std.specs.Prelude.{◌≡◌, ℕ, ◌<◌, ◌≤◌, ◌↔◌, IsOk, List, Result, Err, drop, length, take}
 use Rattle.aegis_base.specs.declared.error.Error.{Error}
 use Rattle.aegis_base.specs.declared.error.Error.TheVariants as errors
-use Rattle.aegis_base.specs.Limits.{max_aead_bytes}
-
--- A message of so many bytes fits in a destination of `room` bytes.
-pub record Fits (message_bytes room : ℕ) : Type 0 where
-  pub within : message_bytes ≤ room
-  pub limit : message_bytes ≤ max_aead_bytes
+use Rattle.aegis_base.specs.Variant.{max_aead_bytes}
 
 -- The answer to a chunk with which the message would have so many bytes.
 pub record AnswersChunk {A : Type 0} (message_bytes room : ℕ) (result : Result A Error) : Type 0 where
@@ -17,8 +12,7 @@ pub record AnswersChunk {A : Type 0} (message_bytes room : ℕ) (result : Result
   pub too_long : (result ≡ Err errors.MessageTooLong) ↔ ((message_bytes ≤ room) × (max_aead_bytes < message_bytes))
   pub accepted : IsOk result ↔ ((message_bytes ≤ room) × (message_bytes ≤ max_aead_bytes))
 
--- A destination was `old` with a message of `before` bytes, and is `new` with one of `after` bytes. No other bytes have changed
--- than those by which the message has grown.
+-- A destination was `old` with a message of `before` bytes, and is `new` with one of `after` bytes. Nothing else has changed.
 pub record Appends (old : List ℕ) (before : ℕ) (new : List ℕ) (after : ℕ) : Type 0 where
   pub grows : before ≤ after
   pub room : length new ≡ length old

@@ -1,4 +1,5 @@
-pub mod Chunk
 pub mod Beginning
+pub mod Chunk
 pub mod Pass
+pub mod Private
 pub mod Saved

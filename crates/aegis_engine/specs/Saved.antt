@@ -31,8 +31,7 @@ HasSealed variant old bytes out =
     (key nonce ad m : List ℕ) → IsSaved variant old key nonce ad m
     → ciphertext variant key nonce ad (m ++ bytes) ≡ ciphertext variant key nonce ad m ++ out
 
--- if `old` stands for some message, `new` stands for it with some bytes appended, and its ciphertext has continued with
--- c
+-- if `old` stands for some message, `new` stands for it with bytes appended, and its ciphertext has continued with c
 abbrev pub HasChecked : (variant : Variant) (old new : SavedContext) (c : List ℕ) → Type 0
 HasChecked variant old new c =
     (key nonce ad m : List ℕ) → IsSaved variant old key nonce ad m

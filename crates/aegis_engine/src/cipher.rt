@@ -7,8 +7,7 @@ ghost use Rattle.std.specs.Prelude.{◌≡◌, ⊤, ◌≤◌, ◌⊎◌, ◌++�
 ghost use Rattle.aegis_base.specs.Lane.{IsTagLength};
 ghost use Rattle.std.specs.Borrow.{Array, LendsIfOk, sem, u8};
 ghost use Rattle.aegis_base.specs.Chunks.{OpensChunks, accepted, erased, joined};
-ghost use Rattle.aegis_base.specs.Limits.{erased_byte};
-ghost use Rattle.aegis_base.specs.Message.{Opens, ciphertext, seal, keystream, tag, xor_keystream};
+ghost use Rattle.aegis_base.specs.Message.{Opens, ciphertext, seal, keystream, tag, xor_keystream, erased_byte};
 ghost use Rattle.aegis_base.specs.Context.{Stands};
 ghost use Rattle.aegis_engine.specs.Beginning.{beginning, held, filled};
 ghost use Rattle.aegis_base.specs.Variant.{cipher_name, key_length};

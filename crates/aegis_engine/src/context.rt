@@ -8,7 +8,8 @@ ghost use Rattle.std.specs.Prelude.{◌≡◌, ℕ, ◌+◌, ◌-◌, ◌*◌, �
 ghost use Rattle.aegis_base.specs.Chunks.{joined};
 ghost use Rattle.aegis_base.specs.Lane.{IsTagLength};
 ghost use Rattle.aegis_base.specs.Message.{Opens, after_all, block_count, ciphertext, keystream_byte_along, lane_before, lane_end, tag as tag_of};
-ghost use Rattle.aegis_base.specs.Context.{Encrypts, HasFrom, IsAccepted, IsAlong, IsTagged, Stands, Takes, held_by};
+ghost use Rattle.aegis_base.specs.Context.{Encrypts, IsAccepted, IsAlong, IsTagged, Stands, Takes, held_by};
+ghost use Rattle.aegis_base.specs.Private.{HasFrom};
 ghost use Rattle.aegis_base.specs.Variant.{key_length};
 ghost use Rattle.aegis_engine.specs.Pass.{absorbed, sealed};
 

@@ -50,7 +50,7 @@ impl<S: LaneState, const TAG_BYTES: usize> fmt::Debug for Decryptor<'_, S, TAG_B
 }
 
 impl<'a, S: LaneState, const TAG_BYTES: usize> Decryptor<'a, S, TAG_BYTES> {
-    ghost use Rattle.aegis_engine.specs.Beginning.{beginning, held, filled};
+    ghost use Rattle.aegis_engine.specs.Beginning.{beginning, filled, held};
 
     /// Opens the next chunk of the ciphertext, and writes it to the destination after the previous chunks.
     ///

@@ -5,7 +5,8 @@ ghost use Rattle.std.specs.Prelude.{◌≡◌, ℕ, ◌+◌, ◌≤◌, List, On
 ghost use Rattle.aegis_base.specs.Chunks.{accepted_after};
 ghost use Rattle.aegis_base.specs.Message.{ciphertext};
 ghost use Rattle.aegis_base.specs.Context.{Continues, Decrypts, Stands};
-ghost use Rattle.aegis_engine.specs.Chunk.{AnswersChunk, Appends, Fits};
+ghost use Rattle.aegis_engine.specs.Chunk.{AnswersChunk, Appends};
+ghost use Rattle.aegis_engine.specs.Private.{Fits};
 
 use crate::context::Context;
 use crate::pass::Pass;

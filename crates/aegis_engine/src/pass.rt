@@ -6,10 +6,12 @@
 //! bytes before a call.
 
 ghost use Rattle.std.specs.Prelude.{◌≡◌, ℕ, ◌+◌, ◌*◌, ◌/◌, ◌%◌, ◌^◌, ◌<◌, ◌≤◌, bit_xor, length, List, slice_index, replicate};
-ghost use Rattle.aegis_aes.specs.Block.{IsSameBefore, IsSameFrom, bytes_at};
+ghost use Rattle.aegis_aes.specs.Private.{IsSameBefore, IsSameFrom};
+ghost use Rattle.aegis_aes.specs.Block.{bytes_at};
 ghost use Rattle.aegis_base.specs.Lane.{update};
 ghost use Rattle.aegis_base.specs.Message.{keystream_byte, share_at};
-ghost use Rattle.aegis_base.specs.Context.{IsUnopened, Takes, held_by};
+ghost use Rattle.aegis_base.specs.Private.{IsUnopened};
+ghost use Rattle.aegis_base.specs.Context.{Takes, held_by};
 ghost use Rattle.aegis_engine.specs.Pass.{IsPassed, absorbed};
 
 use aegis_base::LaneState;

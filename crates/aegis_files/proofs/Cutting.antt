@@ -7,7 +7,7 @@ use Rattle.std.proofs.lemmas.Nat.{div_below, le-div}
 use Rattle.std.specs.Io.KnownBytes.{Consumes, IsAtEnd}
 use Rattle.std.specs.List.{concat, range_with_len}
 use Rattle.std.specs.Prelude.{⊤}
-use Rattle.aegis_files.specs.SealedFile.{messages_for, piece, piece_bytes, pieces_in, pieces_of}
+use Rattle.aegis_files.specs.Opening.{messages_for, piece, piece_bytes, pieces_in, pieces_of}
 use Rattle.aegis_files.proofs.Pieces.{concat-push}
 
 -- The messages were read from t, and `rest` is left.

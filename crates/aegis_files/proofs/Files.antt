@@ -8,9 +8,8 @@ use Rattle.aegis_base.specs.declared.error.TheConstants.{MAX_AEAD_BYTES}
 use Rattle.aegis.specs.declared.record.error.RecordError.{RecordError}
 use Rattle.aegis.specs.declared.record.error.RecordError.TheVariants as errors
 use Rattle.aegis.specs.declared.record.version.Version.TheVariants.{Second}
-use Rattle.aegis.specs.Progress.{last_flag}
-use Rattle.aegis.specs.Records.{AreRecords, IsFault, sealed}
-use Rattle.aegis.specs.RecordStream.{first_position, frames, header, position_after, start_at}
+use Rattle.aegis.specs.Calls.{last_flag}
+use Rattle.aegis.specs.RecordStream.{AreRecords, IsFault, first_position, frames, header, position_after, sealed, start_at}
 use Rattle.aegis.proofs.Frames.{one_fault}
 use Rattle.aegis.proofs.Lengths.{length-frames, start_after}
 use Rattle.aegis.proofs.Sealed.{sealed-is}
@@ -19,9 +18,8 @@ use Rattle.aegis_files.specs.declared.error.FileError.{FileError}
 use Rattle.aegis_files.specs.declared.error.FileError.TheVariants.{Stream, TooLong}
 use Rattle.aegis_files.specs.declared.range.OpenedRange.{OpenedRange}
 use Rattle.aegis_files.specs.declared.range.ContentsRange.{ContentsRange}
-use Rattle.aegis_files.specs.Opening.{FailsWith, RefusesFile}
-use Rattle.aegis_files.specs.Range.{AreFrom, AreContentsFrom, OpensRange, RefusesFrom, StopsRange, part_of, part_of_contents}
-use Rattle.aegis_files.specs.SealedFile.{HasNoHead, LeavesSome, IsReadError, IsSealedFile, IsWriteError}
+use Rattle.aegis_files.specs.Opening.{AreContentsFrom, AreFrom, FailsWith, IsReadError, IsSealedFile, IsWriteError, OpensRange, RefusesFile, RefusesFrom, StopsRange, part_of, part_of_contents}
+use Rattle.aegis_files.specs.Private.{HasNoHead, LeavesSome}
 use Rattle.aegis_files.proofs.Pieces.{at_end, concat-short, read_some, some_with, two_prefixes}
 
 -- a stream's records follow its header

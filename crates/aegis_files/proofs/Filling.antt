@@ -7,7 +7,7 @@ use Rattle.std.proofs.lemmas.Slice.{take-put_mid_below}
 use Rattle.std.specs.Io.KnownBytes.{Consumes, IsAtEnd}
 use Rattle.std.specs.Prelude.{Vec}
 use Rattle.std.specs.Vec.{with_items}
-use Rattle.aegis_files.specs.SealedFile.{ReadsPart}
+use Rattle.aegis_files.specs.Private.{ReadsPart}
 use borrow.Rule.Slice.PartMut.{put_mid}
 
 take_filled : (from room n : ℕ) (old part : List ℕ) → from ≤ length old → n ≤ length part → take (from + n) (put_mid from room old part) ≡ take from old ++ take n part

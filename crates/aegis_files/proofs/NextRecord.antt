@@ -4,17 +4,15 @@ use Rattle.std.proofs.lemmas.List.{append-nil, drop-append-le, length-append, le
 use Rattle.std.specs.Bool.{OnFalse, OnTrue}
 use Rattle.std.specs.Io.KnownBytes.{Consumes, IsAtEnd}
 use Rattle.aegis.proofs.Stepwise.{begun_parts, length-record}
-use Rattle.aegis.specs.Calls.{message_of}
-use Rattle.aegis.specs.RecordStream.{parts, limit}
-use Rattle.aegis.specs.Progress.{IsFirstFault, OpensNext, Progress, last_flag, record_of}
-use Rattle.aegis.specs.Records.{IsFault}
+use Rattle.aegis.specs.Calls.{IsFirstFault, OpensNext, Progress, last_flag, message_of, record_of}
+use Rattle.aegis.specs.RecordStream.{IsFault, limit, parts}
 use Rattle.aegis.specs.declared.record.error.RecordError.{RecordError}
 use Rattle.aegis.specs.declared.record.error.RecordError.TheVariants as errors
 use Rattle.aegis.specs.declared.record.record_opener.in_place.OpenedInPlace.{OpenedInPlace}
 use Rattle.aegis.specs.declared.record.version.TheConstants.{MAX_MESSAGE_BYTES}
 use Rattle.aegis.specs.declared.record.version.Version.{Version}
 use Rattle.aegis_files.specs.declared.error.FileError.TheVariants.{Stream}
-use Rattle.aegis_files.specs.SealedFile.{FailsNext, ReadsNext, ReadsPart, Refused}
+use Rattle.aegis_files.specs.Private.{FailsNext, ReadsNext, ReadsPart, Refused}
 use Rattle.aegis_files.proofs.Pieces.{at_end, read_some}
 
 -- ---- what was read

@@ -3,9 +3,9 @@ use Rattle.std.proofs.Common.{◌≡◌, List, [], ◌++◌, ℕ, refl, sym, ap,
 use Rattle.std.proofs.lemmas.List.{append-nil}
 use Rattle.std.specs.List.{concat}
 use Rattle.aegis.proofs.Stepwise.{sealed_one_stream}
-use Rattle.aegis.specs.Records.{AreRecords}
+use Rattle.aegis.specs.RecordStream.{AreRecords}
 use Rattle.aegis.specs.declared.record.version.Version.TheVariants.{Second}
-use Rattle.aegis_files.specs.SealedFile.{IsSealedFile}
+use Rattle.aegis_files.specs.Opening.{IsSealedFile}
 use Rattle.aegis_files.proofs.Pieces.{two_prefixes}
 
 -- two files, of which one begins with the other

@@ -5,7 +5,7 @@ use Rattle.std.proofs.lemmas.List.{length-append, length-drop, length-take, take
 use Rattle.std.proofs.lemmas.List.FromFn.{length-map-range_with_len, map-range_with_len_more, take-map-range_with_len}
 use Rattle.std.proofs.lemmas.Nat.{div-add-mod', mod_below}
 use Rattle.std.specs.List.{AllByRecursion, concat, range_with_len}
-use Rattle.aegis_files.specs.SealedFile.{piece, piece_bytes, pieces_in, pieces_of}
+use Rattle.aegis_files.specs.Opening.{piece, piece_bytes, pieces_in, pieces_of}
 use Rattle.aegis_files.proofs.Pieces.{concat-push}
 
 pub count_is : (t : List ℕ) → length (pieces_of t) ≡ pieces_in (length t)

@@ -10,9 +10,8 @@ use Rattle.aegis_base.specs.declared.error.TheConstants.{MAX_AEAD_BYTES}
 use Rattle.aegis.specs.declared.record.error.RecordError.{RecordError}
 use Rattle.aegis.specs.declared.record.error.RecordError.TheVariants as errors
 use Rattle.aegis.specs.declared.record.position.RecordPosition.{RecordPosition}
-use Rattle.aegis.specs.Progress.{AreRecordsOfSomeVersion, Begun, Progress, after, last_flag, progress_at, record_of, start_of}
-use Rattle.aegis.specs.Records.{IsFault, sealed}
-use Rattle.aegis.specs.RecordStream.{Sealing, frames, position_after, start_at}
+use Rattle.aegis.specs.Calls.{AreRecordsOfSomeVersion, Begun, Progress, after, last_flag, progress_at, record_of, start_of}
+use Rattle.aegis.specs.RecordStream.{IsFault, Sealing, frames, position_after, sealed, start_at}
 use Rattle.aegis.proofs.Frames.{one_fault}
 use Rattle.aegis.proofs.Sealed.{sealed-is}
 use Rattle.aegis.proofs.Stepwise.{begun_all, begun_beginning, begun_whole, sealed_one_stream}
@@ -20,8 +19,8 @@ use Rattle.aegis_files.specs.declared.error.FileError.{FileError}
 use Rattle.aegis_files.specs.declared.error.FileError.TheVariants.{Stream, TooLong}
 use Rattle.aegis_files.specs.declared.range.OpenedRange.{OpenedRange}
 use Rattle.aegis_files.specs.declared.range.ContentsRange.{ContentsRange}
-use Rattle.aegis_files.specs.Range.{AreFrom, IsFaultFrom, AreContentsFrom, OpensRange, RefusesFrom, StopsRange, part_of, part_of_contents}
-use Rattle.aegis_files.specs.SealedFile.{FailsNext, Long, NoMemory, ReadsNext, Refused, Unread, IsWriteError}
+use Rattle.aegis_files.specs.Opening.{AreContentsFrom, AreFrom, IsFaultFrom, IsWriteError, OpensRange, RefusesFrom, StopsRange, part_of, part_of_contents}
+use Rattle.aegis_files.specs.Private.{FailsNext, ReadsNext, Long, NoMemory, Refused, Unread}
 use Rattle.aegis_files.proofs.Reaching.{Reaches, are_from, reaches_more, reaches_none, reaches_size}
 use Rattle.aegis_files.proofs.Pieces.{concat-push, counted, part-append, part_nil, read_some}
 

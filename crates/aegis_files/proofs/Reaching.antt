@@ -4,13 +4,12 @@ use Rattle.std.proofs.lemmas.List.{length-append}
 use Rattle.std.specs.List.{concat}
 use Rattle.aegis.specs.declared.record.position.RecordPosition.{RecordPosition}
 use Rattle.aegis.specs.declared.record.version.Version.TheVariants.{Second}
-use Rattle.aegis.specs.Progress.{Progress, after, last_flag, progress_at, record_of, start_of}
-use Rattle.aegis.specs.Records.{AreRecords, sealed}
-use Rattle.aegis.specs.RecordStream.{AreWithin, first_position, frames, frames_length, header, limit, position_after, start_at}
+use Rattle.aegis.specs.Calls.{Progress, after, last_flag, progress_at, record_of, start_of}
+use Rattle.aegis.specs.RecordStream.{AreRecords, AreWithin, first_position, frames, frames_length, header, limit, position_after, sealed, start_at}
 use Rattle.aegis.proofs.Frames.{frames_push, position_append, version_after, within_append}
 use Rattle.aegis.proofs.Lengths.{length-frames, start_after}
 use Rattle.aegis.proofs.Sealed.{sealed-is}
-use Rattle.aegis_files.specs.Range.{AreFrom}
+use Rattle.aegis_files.specs.Opening.{AreFrom}
 use Rattle.aegis_files.proofs.Pieces.{counted_after}
 
 -- The bytes are the records of the messages from the position on, and p is the progress after them.

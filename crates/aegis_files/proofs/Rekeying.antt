@@ -8,14 +8,12 @@ use Rattle.aegis_base.specs.declared.error.TheConstants.{MAX_AEAD_BYTES}
 use Rattle.aegis.specs.declared.record.error.RecordError.TheVariants as errors
 use Rattle.aegis.specs.declared.record.length.TheConstants.{RECORD_BYTES}
 use Rattle.aegis.specs.declared.record.version.Version.TheVariants.{Second}
-use Rattle.aegis.specs.Progress.{Progress, after, last_flag, progress_at, record_of, start_of}
-use Rattle.aegis.specs.Records.{sealed}
-use Rattle.aegis.specs.RecordStream.{AreWithin, first_position, beginning, header, limit}
+use Rattle.aegis.specs.Calls.{Progress, after, last_flag, progress_at, record_of, start_of}
+use Rattle.aegis.specs.RecordStream.{AreWithin, beginning, first_position, header, limit, sealed}
 use Rattle.aegis_files.specs.declared.error.FileError.{FileError}
 use Rattle.aegis_files.specs.declared.error.FileError.TheVariants.{Stream}
-use Rattle.aegis_files.specs.Opening.{AreInFile, IsRekeyed, RefusesFile, RekeysBeginning}
-use Rattle.aegis_files.specs.Range.{AreFrom}
-use Rattle.aegis_files.specs.SealedFile.{FailsNext, LeavesSome, ReadsNext, IsFileOf, IsSealedFile, IsWriteError}
+use Rattle.aegis_files.specs.Opening.{AreFrom, AreInFile, IsFileOf, IsRekeyed, IsSealedFile, IsWriteError, RefusesFile, RekeysBeginning}
+use Rattle.aegis_files.specs.Private.{FailsNext, LeavesSome, ReadsNext}
 use Rattle.aegis_files.proofs.Files.{refuses_file, refuses_more, under, known_head, no_head, under_err}
 use Rattle.aegis_files.proofs.Pieces.{at_end, read_some, some_with}
 use Rattle.aegis_files.proofs.Ranges.{fails_from, refuses_from, unwritten}

@@ -14,14 +14,12 @@ use Rattle.aegis.proofs.Stepwise.{length-record, sealed_one_stream}
 use Rattle.aegis.specs.declared.record.length.TheConstants.{RECORD_BYTES}
 use Rattle.aegis.specs.declared.record.position.RecordPosition.{RecordPosition}
 use Rattle.aegis.specs.declared.record.version.Version.TheVariants.{Second}
-use Rattle.aegis.specs.Calls.{message_at, message_in}
-use Rattle.aegis.specs.Progress.{Progress, after, last_flag, progress_at, record_of, start_of}
-use Rattle.aegis.specs.Records.{AreRecords, sealed}
-use Rattle.aegis.specs.RecordStream.{AreWithin, Sealing, first_position, frame, frames, beginning, header, position_after}
+use Rattle.aegis.specs.Calls.{Progress, after, last_flag, message_at, message_in, progress_at, record_of, start_of}
+use Rattle.aegis.specs.RecordStream.{AreRecords, AreWithin, Sealing, beginning, first_position, frame, frames, header, position_after, sealed}
 use Rattle.aegis_files.specs.declared.error.FileError.{FileError}
 use Rattle.aegis_files.specs.declared.error.FileError.TheVariants.{TooLong}
 use Rattle.aegis_files.specs.declared.seal.TheConstants.{PIECE_BYTES}
-use Rattle.aegis_files.specs.SealedFile.{IsFileInPieces, IsSealedFile, IsWriteError, WritesFileBeginning, messages_for, piece_bytes, pieces_in, stream_length}
+use Rattle.aegis_files.specs.Opening.{IsFileInPieces, IsSealedFile, IsWriteError, WritesFileBeginning, messages_for, piece_bytes, pieces_in, stream_length}
 use Rattle.aegis_files.proofs.Cutting.{AreAll, AreFirst, IsCut, IsNextPiece, cut_end, cut_more, cut_none, first_messages, known_cut}
 use Rattle.aegis_files.proofs.Filling.{put_long, put_part}
 use Rattle.aegis_files.proofs.Pieces.{concat-push, read_some, some_with, two_prefixes}

@@ -3,7 +3,7 @@
 
 ghost use Rattle.std.specs.Prelude.{◌≡◌, ◌<◌, ◌≤◌, ◌∷◌, ◌++◌, [], List, length, ℕ};
 ghost use Rattle.std.specs.List.{AllByRecursion, concat};
-ghost use Rattle.aegis_files.specs.SealedFile.{IsSealedFile, piece_bytes, pieces_in, pieces_of};
+ghost use Rattle.aegis_files.specs.Opening.{IsSealedFile, piece_bytes, pieces_in, pieces_of};
 
 use crate::seal::PIECE_BYTES;
 

@@ -5,8 +5,8 @@ ghost use Rattle.std.specs.Io.KnownBytes.{Appends, Consumes, IsAtEnd};
 ghost use Rattle.aegis_base.specs.declared.error.TheConstants.{MAX_AEAD_BYTES};
 ghost use Rattle.aegis.specs.RecordStream.{header};
 ghost use Rattle.aegis.specs.declared.record.version.Version.TheVariants.{Second};
-ghost use Rattle.aegis_files.specs.Opening.{FailsWith};
-ghost use Rattle.aegis_files.specs.SealedFile.{HasNoHead, LeavesSome, IsReadError, IsSealedFile};
+ghost use Rattle.aegis_files.specs.Opening.{FailsWith, IsReadError, IsSealedFile};
+ghost use Rattle.aegis_files.specs.Private.{HasNoHead, LeavesSome};
 
 use crate::error::FileError;
 use crate::range::{ContentsRange, open_range};

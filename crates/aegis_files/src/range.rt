@@ -5,7 +5,7 @@ ghost use Rattle.std.specs.Bool.{OnFalse, OnTrue};
 ghost use Rattle.aegis_base.specs.declared.error.TheConstants.{MAX_AEAD_BYTES};
 ghost use Rattle.aegis.specs.RecordStream.{start_at};
 ghost use Rattle.aegis.specs.declared.record.version.Version.TheVariants.{Second};
-ghost use Rattle.aegis_files.specs.Range.{OpensRange, StopsRange};
+ghost use Rattle.aegis_files.specs.Opening.{OpensRange, StopsRange};
 
 use crate::error::FileError;
 use crate::next::{message, next_message};

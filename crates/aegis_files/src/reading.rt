@@ -2,7 +2,8 @@
 
 ghost use Rattle.std.specs.Prelude.{◌≡◌, ◌<◌, ◌≤◌, ◌⊎◌, IfErr, IfOk, length, take};
 ghost use Rattle.std.specs.Io.KnownBytes.{Consumes, IsAtEnd};
-ghost use Rattle.aegis_files.specs.SealedFile.{ReadsPart, IsReadError};
+ghost use Rattle.aegis_files.specs.Private.{ReadsPart};
+ghost use Rattle.aegis_files.specs.Opening.{IsReadError};
 
 use crate::error::FileError;
 use crate::seal::PIECE_BYTES;

@@ -1,12 +1,12 @@
 //! Sealing a file, from a reader to a writer.
 
-ghost use Rattle.std.specs.Prelude.{◌≡◌, ◌+◌, ◌<◌, ◌≤◌, ◌++◌, IfErr, IfOk, IfSome, List, OnOk, length, ℕ};
+ghost use Rattle.std.specs.Prelude.{◌≡◌, ◌+◌, ◌<◌, ◌≤◌, ◌++◌, Err, IfErr, IfOk, IfSome, List, OnOk, length, ℕ};
 ghost use Rattle.std.specs.Io.KnownBytes.{Appends, Consumes, IsAtEnd};
-ghost use Rattle.aegis.specs.Calls.{message_at};
-ghost use Rattle.aegis.specs.Progress.{progress_at};
+ghost use Rattle.aegis.specs.Calls.{message_at, progress_at};
 ghost use Rattle.aegis.specs.RecordStream.{first_position, header};
 ghost use Rattle.aegis.specs.declared.record.version.Version.TheVariants.{Second};
-ghost use Rattle.aegis_files.specs.SealedFile.{IsFileInPieces, IsReadError, WritesFileBeginning};
+ghost use Rattle.aegis.specs.declared.record.error.RecordError.{RecordError};
+ghost use Rattle.aegis_files.specs.Opening.{IsFileInPieces, IsReadError, WritesFileBeginning};
 
 use crate::error::FileError;
 use crate::reading::fill;
@@ -75,7 +75,8 @@ pub(crate) fn begin<'a, A: Allocator>(
 ///
 /// After an error, a beginning of such a file was written, whose pieces are a beginning of the contents. If it opens,
 /// it has the whole contents, and a write or the flush failed. So after any other error it does not open. The error is
-/// [`FileError::TooLong`] only if the record stream would have more than [`aegis::MAX_AEAD_BYTES`].
+/// [`FileError::TooLong`] only if the record stream would have more than [`aegis::MAX_AEAD_BYTES`], and
+/// [`FileError::Stream`] only with [`RecordError::OutOfMemory`].
 pub fn seal_stream<R: Read, W: Write, A: Allocator + Copy>(
     alloc: A,
     key: &Key,
@@ -88,6 +89,8 @@ pub fn seal_stream<R: Read, W: Write, A: Allocator + Copy>(
     ensures sealed { OnOk result (IfSome (R.remaining input.old) (λ contents. (file : List ℕ)
         × IsFileInPieces key.now prefix.now context.now contents file
         × Appends (W.contents output.old) (W.contents output.new) file)) }
+    ensures memory { (why : RecordError) → result ≡ Err (FileError.Stream why)
+        → why ≡ RecordError.OutOfMemory }
     ensures stopped { IfErr result (λ e. IfSome (R.remaining input.old)
         (λ contents. WritesFileBeginning key.now prefix.now context.now contents
         (W.contents output.old) (W.contents output.new) e)) }

@@ -2,7 +2,7 @@
 
 ghost use Rattle.std.specs.Prelude.{◌≡◌, ℕ, IfErr, OnErr, OnOk, take};
 ghost use Rattle.std.specs.Io.KnownBytes.{Appends, Keeps};
-ghost use Rattle.aegis_files.specs.SealedFile.{IsWriteError};
+ghost use Rattle.aegis_files.specs.Opening.{IsWriteError};
 
 use crate::error::FileError;
 use std::io;

@@ -18,7 +18,7 @@ use Rattle.hex.specs.Hex.{decode_of, is_hex_digit}
 use Rattle.aegis.specs.RecordStream.{AreWithin, frames_length, limit, records_length}
 use Rattle.aegis.specs.declared.record.version.Version.TheVariants.{Second}
 use Rattle.aegis_base.specs.Chunks.{texts}
-use Rattle.aegis_lines.specs.Table.{bytes_of, is_bytes, messages_of, are_messages}
+use Rattle.aegis_lines.specs.Answer.{bytes_of, is_bytes, messages_of, are_messages}
 
 pub and_parts : (a b : Bool) → (a && b) ≡ true → (a ≡ true) × (b ≡ true)
 and_parts true b e = (refl, e)

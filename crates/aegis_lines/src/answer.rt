@@ -5,8 +5,8 @@ ghost use Rattle.aegis_base.specs.Chunks.{joined, texts};
 ghost use Rattle.aegis_base.specs.Lane.{IsTagLength};
 ghost use Rattle.aegis_base.specs.declared.error.Error.TheVariants.{OutOfMemory};
 ghost use Rattle.aegis_base.specs.declared.error.TheConstants.{MAX_AEAD_BYTES};
-ghost use Rattle.aegis_lines.specs.Answer.{IsAnswer, IsOpeningAnswer, IsReply, bytes_at, shown_pair};
-ghost use Rattle.aegis_lines.specs.Table.{field_of, shown, tag_length_in, variant_in, IsFaultless, command_named, fault_of};
+ghost use Rattle.aegis_lines.specs.Answer.{IsAnswer, IsOpeningAnswer, IsReply, bytes_at, command_named, fault_of, field_of, shown, shown_pair, tag_length_in, variant_in};
+ghost use Rattle.aegis_lines.specs.Private.{IsFaultless};
 ghost use Rattle.aegis_lines.specs.declared.table.Command.TheVariants as commands;
 ghost use Rattle.aegis_lines.specs.declared.table.Kind.TheVariants as kinds;
 ghost use Rattle.aegis_variants.specs.Cipher.{key_of, nonce_of, sealed_by, variant_of, key_length_of};
@@ -49,7 +49,7 @@ fn answer<A: Allocator + Copy>(alloc: A, line: &[u8]) -> Result<Vec<u8, A>, Allo
 }
 
 // The command that a line's first field names.
-#[tactic(auto, unfolding(crate::specs::Table::command_named))]
+#[tactic(auto, unfolding(crate::specs::Answer::command_named))]
 fn command(fields: &[&[u8]]) -> Option<Command>
     ensures { result ≡ command_named (field_of (texts fields.now) 0) }
 {
@@ -246,7 +246,7 @@ fn len_of(chunks: &[&[u8]]) -> usize
 }
 
 // The answer to `stream V K N LEN`.
-#[tactic(auto, unfolding(crate::specs::Table::is_count))]
+#[tactic(auto, unfolding(crate::specs::Answer::is_count))]
 fn stream<A: Allocator + Copy>(alloc: A, fields: &[&[u8]]) -> Result<Vec<u8, A>, AllocError>
     requires { IsFaultless commands.Stream (texts fields.now) }
     ensures { IfOk result (λ text. IsReply commands.Stream (texts fields.now) text.items) }

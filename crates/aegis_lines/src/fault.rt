@@ -1,8 +1,7 @@
 //! The faults of lines.
 
 ghost use Rattle.std.specs.Prelude.{◌≡◌};
-ghost use Rattle.aegis_lines.specs.Answer.{text_of_fault};
-ghost use Rattle.aegis_lines.specs.Table.{earlier, order_of};
+ghost use Rattle.aegis_lines.specs.Answer.{earlier, order_of, text_of_fault};
 
 /// The faults of a line, in the order in which they are looked for: each in all fields of the line before the next one.
 #[derive(Clone, Copy, Debug)]

@@ -6,7 +6,7 @@ ghost use Rattle.std.specs.List.{list_all};
 ghost use Rattle.std.specs.Str.Parse.{digits_value};
 ghost use Rattle.hex.specs.Hex.{is_hex_digit};
 ghost use Rattle.aegis_base.specs.Chunks.{texts};
-ghost use Rattle.aegis_lines.specs.Table.{bytes_of, cut_at, field_of, is_bytes, is_count, messages_of, pieces_of, shown, tag_length_in, variant_in, variant_named};
+ghost use Rattle.aegis_lines.specs.Answer.{bytes_of, cut_at, field_of, is_bytes, is_count, messages_of, pieces_of, shown, tag_length_in, variant_in, variant_named};
 ghost use Rattle.aegis_variants.specs.Cipher.{key_length_of};
 
 use aegis_variants::AnyVariant;
@@ -39,7 +39,7 @@ pub fn field<'a>(fields: &[&'a [u8]], index: usize) -> &'a [u8]
 }
 
 /// Returns the variant with this name, in lower case.
-#[tactic(auto, unfolding(crate::specs::Table::variant_named))]
+#[tactic(auto, unfolding(crate::specs::Answer::variant_named))]
 pub fn variant_named(name: &[u8]) -> Option<AnyVariant>
     ensures { result ≡ variant_named name.now }
 {
@@ -91,7 +91,7 @@ pub fn tag_len_in(fields: &[&[u8]]) -> usize
 }
 
 /// Returns whether a field, or a piece, is of bytes: `-`, or pairs of hexadecimal digits.
-#[tactic(auto, unfolding(crate::specs::Table::is_bytes))]
+#[tactic(auto, unfolding(crate::specs::Answer::is_bytes))]
 pub fn is_bytes(field: &[u8]) -> bool
     ensures { result ≡ is_bytes field.now }
 {
@@ -126,7 +126,7 @@ pub fn bytes_len(field: &[u8]) -> usize
 }
 
 /// Returns the bytes that a field of bytes stands for. The only error is that there is no memory for them.
-#[tactic(auto, unfolding(crate::specs::Table::bytes_of))]
+#[tactic(auto, unfolding(crate::specs::Answer::bytes_of))]
 pub fn bytes<A: Allocator>(alloc: A, field: &[u8]) -> Result<Vec<u8, A>, AllocError>
     requires { is_bytes field.now ≡ true }
     ensures { IfOk result (λ bytes. bytes.items ≡ bytes_of field.now) }
@@ -183,7 +183,7 @@ pub fn text_for<A: Allocator>(alloc: A, bytes: usize) -> Result<Vec<u8, A>, Allo
 }
 
 /// Appends bytes to a text, as a field of them is written: in lower case, and no bytes as `-`.
-#[tactic(auto, unfolding(crate::specs::Table::shown))]
+#[tactic(auto, unfolding(crate::specs::Answer::shown))]
 pub fn push_bytes<A: Allocator>(text: &mut Vec<u8, A>, bytes: &[u8]) -> Result<(), AllocError>
     ensures { OnOk result (text.new.items ≡ text.old.items ++ shown bytes.now) }
 {
@@ -203,7 +203,7 @@ pub fn push_bytes<A: Allocator>(text: &mut Vec<u8, A>, bytes: &[u8]) -> Result<(
 }
 
 /// Returns whether a field is the length of a keystream.
-#[tactic(auto, unfolding(crate::specs::Table::is_count))]
+#[tactic(auto, unfolding(crate::specs::Answer::is_count))]
 pub fn is_count(field: &[u8]) -> bool
     ensures { result ≡ is_count field.now }
 {

@@ -3,7 +3,7 @@
 ghost use Rattle.std.specs.Prelude.{◌≡◌, ◌++◌, IfOk, None, codes, length, map, vec_items};
 ghost use Rattle.aegis_base.specs.Chunks.{texts};
 ghost use Rattle.aegis_lines.specs.Answer.{IsRefusal, IsReply, shown_messages};
-ghost use Rattle.aegis_lines.specs.Table.{IsFaultless};
+ghost use Rattle.aegis_lines.specs.Private.{IsFaultless};
 ghost use Rattle.aegis_lines.specs.declared.table.Command.TheVariants as commands;
 
 use crate::answer::shown;

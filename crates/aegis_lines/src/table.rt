@@ -4,7 +4,8 @@ ghost use Rattle.std.specs.Prelude.{◌≡◌, ◌+◌, ◌≤◌, IfOk, Ok, Non
 ghost use Rattle.std.specs.List.{concat, list_all};
 ghost use Rattle.aegis_base.specs.Chunks.{texts};
 ghost use Rattle.aegis_base.specs.declared.error.TheConstants.{MAX_AEAD_BYTES};
-ghost use Rattle.aegis_lines.specs.Table.{bytes_of, is_bytes, AreFaultless, IsFaultless, bytes_fault, command_named, fault_in, fault_of, first_fault, have_records, kinds_of, unless};
+ghost use Rattle.aegis_lines.specs.Answer.{bytes_of, is_bytes, bytes_fault, command_named, fault_in, fault_of, first_fault, have_records, kinds_of, unless};
+ghost use Rattle.aegis_lines.specs.Private.{AreFaultless, IsFaultless};
 
 use crate::fault::{Fault, earlier};
 use crate::fields::{
@@ -68,7 +69,7 @@ const RECORD_BYTES: u128 = 37;
 
 impl Command {
     /// Returns the command with this name.
-    #[tactic(auto, unfolding(crate::specs::Table::command_named))]
+    #[tactic(auto, unfolding(crate::specs::Answer::command_named))]
     pub fn named(name: &[u8]) -> Option<Command>
         ensures { result ≡ command_named name.now }
     {

@@ -3,18 +3,17 @@
 use Rattle.std.proofs.Common.{◌≡◌, ℕ, ◌<◌, ◌≤◌, ◌⊎◌, inl, inr, List, [], Option, None, Some, IfNone, IfSome, length, option_map, refl, sym, subst, arith}
 use Rattle.aegis_aes.specs.Lanes.{IsLaneCount}
 use Rattle.aegis_base.specs.Variant.{Variant}
-use Rattle.aegis_storage.specs.Bytes.{part_at}
-use Rattle.aegis_storage.specs.Disk.{Disk, IsPossible, Writes, after_writes}
-use Rattle.aegis_storage.specs.Journal.{HasBeginning, IsContent, IsJournal, IsOneOf}
+use Rattle.aegis_storage.specs.Disk.{Disk, IsPossible, Writes, after_writes, part_at}
+use Rattle.aegis_storage.specs.Journal.{HasBeginning, IsJournal, IsOneOf}
+use Rattle.aegis_storage.specs.Private.{IsContent}
 use Rattle.aegis_storage.proofs.Disks.{readable}
 use Rattle.aegis_storage.proofs.Journals.{one_journal}
 use Rattle.aegis_pages.specs.declared.header.FileHeader.{FileHeader}
-use Rattle.aegis_pages.specs.Commits.{AreWritesOf, Fits, HasHonestHeader, IsAccepted, IsHonest, IsNotWhole, IsOfAnother, IsOfCommit, MakesNoOther, RecoversContentsUnlessForged, head_of, journal_key}
-use Rattle.aegis_pages.specs.Errors.{IsOpenRefusal}
+use Rattle.aegis_pages.specs.Commits.{AreWritesOf, Fits, HasHonestHeader, IsAccepted, IsHonest, IsNotWhole, IsOfAnother, IsOfCommit, IsOpenRefusal, MakesNoOther, RecoversContentsUnlessOtherJournal, head_of, journal_key}
 use Rattle.aegis_pages.specs.declared.error.PagesError.{PagesError}
 use Rattle.aegis_pages.specs.declared.error.PagesError.TheVariants.{Header, Journal}
 use Rattle.aegis_pages.specs.Layouts.{HasHeader, HasNoHeader, IsHeader, Layout, journal_beginning, layout_of}
-use Rattle.aegis_pages.specs.SealedPages.{IsFileUnder}
+use Rattle.aegis_pages.specs.OpenFile.{IsFileUnder}
 use Rattle.aegis_pages.proofs.CommitFacts.{head_read}
 use Rattle.aegis_pages.proofs.SealedFacts.{one_in_file}
 
@@ -82,7 +81,7 @@ fits_all variant key (Some file) (Some js) read header_block header writes it ac
     (subst (IsAccepted variant key header_block header writes) it.content accepted)
 
 -- a journal that fits, and that opening would make again only if it is that of the commit, is that of the commit or not whole
-pub made_is_own : (variant : Variant) (key before now : List ℕ) (storage journal : Option Disk) (a b : Option (List ℕ)) (batch : RecoversContentsUnlessForged variant key before now storage journal)
+pub made_is_own : (variant : Variant) (key before now : List ℕ) (storage journal : Option Disk) (a b : Option (List ℕ)) (batch : RecoversContentsUnlessOtherJournal variant key before now storage journal)
     → IsPossible a storage → IfSome a (λ file. IfSome b (Fits variant key file)) → IfSome a (λ file. IfSome b (MakesNoOther batch file)) → IfSome b (IsHonest batch)
 made_is_own variant key before now storage journal None b batch p fit made =
     absurd (let x = readable None storage batch.recovers.storage_disk p batch.recovers.storage_is in let none = x.is in cc)
@@ -90,7 +89,7 @@ made_is_own variant key before now storage journal (Some file) None batch p fit 
 made_is_own variant key before now storage journal (Some file) (Some js) batch p fit made = λ found is. made found is (fit.whole found is)
 
 -- a journal that is that of the commit is none other that opening would make again
-pub own_is_made : (variant : Variant) (key before now : List ℕ) (storage journal : Option Disk) (a b : Option (List ℕ)) (batch : RecoversContentsUnlessForged variant key before now storage journal)
+pub own_is_made : (variant : Variant) (key before now : List ℕ) (storage journal : Option Disk) (a b : Option (List ℕ)) (batch : RecoversContentsUnlessOtherJournal variant key before now storage journal)
     → IfSome b (IsHonest batch) → IfSome a (λ file. IfSome b (MakesNoOther batch file))
 own_is_made variant key before now storage journal None b batch honest = tt
 own_is_made variant key before now storage journal (Some file) None batch honest = tt
@@ -142,7 +141,7 @@ own_beginning : (beginning bytes : List ℕ) → HasBeginning beginning bytes �
 own_beginning beginning bytes (inl short) another = let long = another.0 in omega (arith, short, long)
 own_beginning beginning bytes (inr same) another = another.1 same
 
-accepts : (variant : Variant) (key before now : List ℕ) (storage journal : Option Disk) (batch : RecoversContentsUnlessForged variant key before now storage journal)
+accepts : (variant : Variant) (key before now : List ℕ) (storage journal : Option Disk) (batch : RecoversContentsUnlessOtherJournal variant key before now storage journal)
     (file read : List ℕ) (header_block : Option (List ℕ)) (header : Option FileHeader) (writes : Option Writes)
     → WasRead variant key (Some file) (Some read) read header_block header writes → IsPossible (Some file) storage → IsPossible (Some read) journal
     → IsHonest batch read → HasHonestHeader batch file → IsAccepted variant key header_block header writes read
@@ -170,7 +169,7 @@ accepts variant key before now storage journal batch file read header_block head
         (honest_header (layout_of variant key h) h.counter h.len refl refl it.found.is)))
 
 -- what was read is accepted
-pub accepts_all : (variant : Variant) (key before now : List ℕ) (storage journal : Option Disk) (batch : RecoversContentsUnlessForged variant key before now storage journal)
+pub accepts_all : (variant : Variant) (key before now : List ℕ) (storage journal : Option Disk) (batch : RecoversContentsUnlessOtherJournal variant key before now storage journal)
     (a b : Option (List ℕ)) (read : List ℕ) (header_block : Option (List ℕ)) (header : Option FileHeader) (writes : Option Writes)
     → WasRead variant key a b read header_block header writes → IsPossible a storage → IsPossible b journal
     → IfSome b (IsHonest batch) → IfSome a (HasHonestHeader batch) → IsAccepted variant key header_block header writes read

@@ -10,7 +10,8 @@ use Rattle.std.specs.Map.{lookup}
 use Rattle.std.specs.Ordering.{match_ordering}
 use Rattle.aegis_pages.specs.declared.changes.PageContents.{PageContents}
 use Rattle.aegis_pages.specs.declared.layout.TheConstants.{MAX_CONTENTS_BYTES}
-use Rattle.aegis_pages.specs.Changed.{Plaintexts, contents_at, plaintexts_in, FitPages}
+use Rattle.aegis_pages.specs.OpenFile.{Plaintexts, contents_at}
+use Rattle.aegis_pages.specs.Private.{plaintexts_in, FitPages}
 
 -- the entries as contents
 abbrev pub plaintexts_of : {A : Type 0} → List (ℕ × PageContents A) → Plaintexts

@@ -2,8 +2,7 @@
 use Rattle.std.proofs.Common.{◌≡◌, ◌↔◌, IsTrue, ℕ, ◌+◌, ◌<◌, ◌≤◌, ◌⊎◌, inl, inr, List, [], ◌∷◌, ◌++◌, drop, length, take, refl, sym, ap, ◌∙◌, arith, nat_cmp, Bool, true, false, cond, Option, None, Some, subst, rules}
 use Rattle.std.proofs.lemmas.List.{length-append, length-take, take-append-drop, take-take, take_all}
 use Rattle.aegis_base.specs.Variant.{Variant}
-use Rattle.aegis_storage.specs.Bytes.{overwritten, part_at}
-use Rattle.aegis_storage.specs.Disk.{Writes, after_writes}
+use Rattle.aegis_storage.specs.Disk.{Writes, after_writes, overwritten, part_at}
 use Rattle.aegis_storage.specs.Journal.{AreWithin, entries, entry}
 use Rattle.aegis_storage.specs.declared.store.TheConstants.{MAX_STORAGE_BYTES}
 use Rattle.aegis_storage.proofs.Journals.{same_entry}
@@ -15,9 +14,9 @@ use Rattle.std.specs.List.{AllByRecursion}
 use Rattle.std.proofs.Math.Nat.{mul-le-mul_right}
 use Rattle.aegis_storage.proofs.Disks.{written_more}
 use Rattle.aegis_storage.proofs.Overwriting.{kept_part, length-overwritten, put_part}
-use Rattle.aegis_pages.specs.Changed.{Plaintexts, contents_at, HaveOnePlaintext, IsSealOf, Seals}
+use Rattle.aegis_pages.specs.OpenFile.{ArePages, Changes, IsSealed, Plaintexts, Shows, contents_at, unchanged}
+use Rattle.aegis_pages.specs.Private.{HaveOnePlaintext, IsSealOf, Seals}
 use Rattle.aegis_pages.specs.Layouts.{IsHeader, IsHeaderBlock, Layout, OpensAt, sealed_bytes, page_at, page_place}
-use Rattle.aegis_pages.specs.SealedPages.{ArePages, Changes, IsSealed, Shows, unchanged}
 
 -- ---- the first and the last write in the content of a journal
 

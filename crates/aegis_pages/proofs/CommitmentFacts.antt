@@ -7,7 +7,7 @@ use Rattle.aegis_base.specs.Context.{Stands}
 use Rattle.aegis_base.specs.Variant.{Variant}
 use Rattle.aegis_engine.specs.Saved.{IsSaved}
 use Rattle.aegis_engine.specs.declared.saved.SavedContext.{SavedContext}
-use Rattle.aegis_pages.specs.Commitments.{HasOneCommitment, commitment, page_count, page_tag, page_tags}
+use Rattle.aegis_pages.specs.Commits.{HasOneCommitment, commitment, page_count, page_tag, page_tags}
 use Rattle.aegis_aes.specs.Lanes.{IsLaneCount}
 use Rattle.aegis_pages.specs.Layouts.{IsHeader, Layout, plaintext_header, nonce_bytes}
 use Rattle.aegis_pages.proofs.SealedFacts.{one_in_file}

@@ -2,9 +2,9 @@
 use Rattle.std.proofs.Common.{◌≡◌, ℕ, ◌+◌, ◌-◌, ◌<◌, ◌≤◌, ◌⊎◌, inl, inr, List, ◌*◌, ◌++◌, Option, drop, get_or, length, take, sym, ap, ◌∙◌, arith, replicate, max, min}
 use Rattle.std.proofs.lemmas.Bool.{cases_lt}
 use Rattle.std.proofs.lemmas.List.{get_or-take, get_or_past, length-drop, length-take, get_or-append_right, get_or-drop, get_or-replicate, get_or_append_left}
-use Rattle.aegis_storage.specs.Bytes.{overwritten, part_at}
+use Rattle.aegis_storage.specs.Disk.{overwritten, part_at}
 use Rattle.aegis_pages.specs.Layouts.{Layout, sealed_bytes, inner, nonce_bytes}
-use Rattle.aegis_pages.specs.SealedPages.{IsPage, Shows}
+use Rattle.aegis_pages.specs.OpenFile.{IsPage, Shows}
 use Rattle.aegis_pages.proofs.SealedFacts.{inner_of}
 use Rattle.aegis_storage.proofs.Overwriting.{after_part, before_part, length-overwritten, put_part, within_part}
 

@@ -3,9 +3,9 @@ use Rattle.std.proofs.Common.{◌≡◌, ℕ, ◌≤◌, ◌≢◌, ◌∙◌, B
 use Rattle.std.specs.declared.io.Error.{Error}
 use Rattle.aegis_pages.specs.declared.error.PagesError.{PagesError}
 use Rattle.aegis_pages.specs.declared.error.PagesError.TheVariants.{Read, Write, Nonce, Header, Damaged, OutOfMemory, Journal, Broken}
-use Rattle.aegis_pages.specs.Errors.{IsReadRefusal, IsBeginRefusal, IsCreateRefusal, IsReadError}
+use Rattle.aegis_pages.specs.Commits.{IsReadRefusal, IsReadError, IsBeginRefusal, IsCreateRefusal}
 use Rattle.aegis_pages.specs.Layouts.{IsPageSize, Layout}
-use Rattle.aegis_pages.specs.SealedPages.{Changes}
+use Rattle.aegis_pages.specs.OpenFile.{Changes}
 
 pub known_map : (o : Option (List ℕ)) (P Q : List ℕ → Type 0) → ((xs : List ℕ) → P xs → Q xs) → IfSome o P → IfSome o Q
 known_map None P Q f p = tt

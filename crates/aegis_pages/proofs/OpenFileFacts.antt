@@ -2,15 +2,13 @@
 use Rattle.std.proofs.Common.{◌≡◌, ℕ, ◌+◌, ◌-◌, ◌<◌, ◌≤◌, Bool, false, List, [], ◌∷◌, ◌++◌, Option, None, Some, IfSome, drop, get_or, length, max, min, take, refl, sym, ap, subst, ◌∙◌, arith}
 use Rattle.std.proofs.lemmas.List.{append-nil, drop_all, ext_get_or, length-append, length-drop, length-take, nil_from_length, take_all}
 use Rattle.aegis_aes.specs.Lanes.{IsLaneCount}
-use Rattle.aegis_storage.specs.Bytes.{IfKnown, ResizesTo, WritesAt, overwritten, part_at, resized}
-use Rattle.aegis_storage.specs.Disk.{Adds, Disk, IsPossible, IsSynced, IsWithin, MakesSynced, SettlesTo, Size, Write, after, certain}
+use Rattle.aegis_storage.specs.Disk.{Adds, Disk, IfKnown, IsPossible, IsSynced, IsWithin, MakesSynced, ResizesTo, SettlesTo, Size, Write, WritesAt, after, certain, overwritten, part_at, resized}
 use Rattle.aegis_storage.proofs.Disks.{applied_append, readable, resized_none, settles_emptied, within_after, within_both, within_settles}
 use Rattle.std.specs.Io.KnownBytes.{Keeps}
 use Rattle.aegis_storage.proofs.Overwriting.{kept_part, length-overwritten, length-part, length-resized, part_byte, put_part, resized_byte}
-use Rattle.aegis_pages.specs.Changed.{Plaintexts, contents_at}
+use Rattle.aegis_pages.specs.OpenFile.{ArePages, Has, IsFileOf, IsKnown, IsSealed, Plaintexts, contents_at, unchanged}
 use Rattle.aegis_pages.specs.Layouts.{IsHeader, IsHeaderBlock, Layout}
-use Rattle.aegis_pages.specs.OpenFile.{Has, IsCertain, IsKnown}
-use Rattle.aegis_pages.specs.SealedPages.{ArePages, IsFileOf, IsSealed, WritesContents, unchanged}
+use Rattle.aegis_pages.specs.Private.{IsCertain, WritesContents}
 use Rattle.aegis_pages.proofs.SealedFacts.{one_in_file}
 use Rattle.aegis_pages.proofs.CommitFacts.{header_written}
 

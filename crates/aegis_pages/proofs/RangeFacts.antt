@@ -3,9 +3,10 @@ use Rattle.std.proofs.Common.{◌≡◌, ℕ, ◌+◌, ◌-◌, ◌*◌, ◌/◌
 use Rattle.std.proofs.lemmas.Bool.{cases_lt}
 use Rattle.std.proofs.lemmas.List.{get_or-drop, get_or-take, length-drop, length-take}
 use Rattle.std.proofs.lemmas.Nat.{div-add-mod', div-mul-add, mod-mul-add, div_below, le-div, mod_below}
-use Rattle.aegis_storage.specs.Bytes.{overwritten}
+use Rattle.aegis_storage.specs.Disk.{overwritten}
 use Rattle.aegis_pages.specs.Layouts.{Layout, sealed_bytes, inner, nonce_bytes}
-use Rattle.aegis_pages.specs.SealedPages.{ArePages, Changes, IsByte, Shows, IsApart, IsPage, KeepsOthers, WritesContents}
+use Rattle.aegis_pages.specs.OpenFile.{ArePages, Changes, IsByte, Shows, IsApart, IsPage, KeepsOthers}
+use Rattle.aegis_pages.specs.Private.{WritesContents}
 use Rattle.aegis_storage.proofs.Overwriting.{before_part, within_part, length-overwritten}
 use Rattle.aegis_pages.proofs.ComposeFacts.{outside}
 use Rattle.std.proofs.Math.Nat.{mul-le-mul_right}

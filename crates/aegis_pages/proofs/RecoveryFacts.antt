@@ -2,16 +2,13 @@
 use Rattle.std.proofs.Common.{◌≡◌, ℕ, ◌⊎◌, inl, inr, Bool, false, List, [], ◌∷◌, Option, None, Some, IfSome, length, take, refl, sym, ap, subst, ◌∙◌, ◌≤◌}
 use Rattle.aegis_aes.specs.Lanes.{IsLaneCount}
 use Rattle.aegis_base.specs.Variant.{Variant}
-use Rattle.aegis_storage.specs.Bytes.{overwritten, part_at}
-use Rattle.aegis_storage.specs.Disk.{Crashed, Disk, IsPossible, Writes, WritesAll, certain, after_writes}
-use Rattle.aegis_storage.specs.Journal.{IsAtRest, IsNoOtherJournal, IsOneOf, KeepsBeginning, RecoversUnlessForged, RecoversKnown, RestsAtEither}
+use Rattle.aegis_storage.specs.Disk.{Crashed, Disk, IsPossible, Writes, WritesAll, after_writes, certain, overwritten, part_at}
+use Rattle.aegis_storage.specs.Journal.{IsAtRest, IsNoOtherJournal, IsOneOf, KeepsBeginning, RecoversUnlessOtherJournal, RecoversKnown, RestsAtEither}
 use Rattle.aegis_storage.proofs.Disks.{certain_leaves, has_left, readable_certain}
 use Rattle.aegis_storage.proofs.Journals.{crashed_beginning, empty_beginning, crashed_recovers, empty_is_none, rest_recovers}
-use Rattle.aegis_pages.specs.Changed.{Plaintexts, contents_at}
-use Rattle.aegis_pages.specs.Commits.{IsHonest, IsOfCommit, RecoversContentsUnlessForged, RestsAtContents, head_bytes, head_of, journal_key}
+use Rattle.aegis_pages.specs.OpenFile.{AreCommitted, ArePages, Committed, Has, HasCommitted, HasContents, IsCommitted, IsFileOf, IsFileUnder, IsKnown, IsSealed, IsStoredAs, OpenFile, OpensAtOne, Plaintexts, contents_at}
+use Rattle.aegis_pages.specs.Commits.{IsHonest, IsOfCommit, RecoversContentsUnlessOtherJournal, RestsAtContents, head_bytes, head_of, journal_key}
 use Rattle.aegis_pages.specs.Layouts.{IsHeader, Layout, journal_beginning}
-use Rattle.aegis_pages.specs.OpenFile.{AreCommitted, Committed, HasCommitted, HasContents, IsCommitted, IsStoredAs, OpenFile, OpensAtOne, Has, IsKnown}
-use Rattle.aegis_pages.specs.SealedPages.{ArePages, IsFileOf, IsFileUnder, IsSealed}
 use Rattle.aegis_pages.proofs.CommitFacts.{first_again, head_read, take_own}
 use Rattle.aegis_pages.proofs.OpenFileFacts.{holds_has, holds_sealed, sealed_has}
 
@@ -38,14 +35,14 @@ pub commit_recovers : (layout : Layout) (counter stored len next : ℕ) (changes
     → key ≡ journal_key layout.variant layout.key → beginning ≡ journal_beginning layout → IsPossible a disk → Commits layout len next changes writes
     → IfSome a (λ file. (512 ≤ length file) × (header_block ≡ part_at file 0 512)) → IsOfCommit (take (head_bytes layout.variant) header_block) writes
     → ((file : List ℕ) → IsOfCommit (head_of layout.variant (after_writes writes file)) writes) → IsAtRest disk journal file → IsSealed layout counter before file
-    → IsKnown (Has layout counter stored len changes broken now) a → RecoversUnlessForged key [] file writes disk' journal' → KeepsBeginning beginning journal' → RecoversContentsUnlessForged layout.variant layout.key before now disk' journal'
+    → IsKnown (Has layout counter stored len changes broken now) a → RecoversUnlessOtherJournal key [] file writes disk' journal' → KeepsBeginning beginning journal' → RecoversContentsUnlessOtherJournal layout.variant layout.key before now disk' journal'
 commit_recovers layout counter stored len next changes broken writes key beginning before now file header_block a disk journal disk' journal' is names possible commits read old_head new_head rests sealed s recovers keeps = record {
   layout = layout;
   file = file;
   writes = writes;
   variant_is = refl;
   key_is = refl;
-  recovers = subst (λ (k : List ℕ). RecoversUnlessForged k [] file writes disk' journal') is recovers;
+  recovers = subst (λ (k : List ℕ). RecoversUnlessOtherJournal k [] file writes disk' journal') is recovers;
   without = (counter, sealed);
   with_writes = inr (next, commit_sealed_at layout counter stored len next changes broken writes now file a disk journal possible commits rests s);
   old_head = subst (λ (l : List ℕ). IsOfCommit l writes) (head_read layout.variant file header_block (found.1)) old_head;
@@ -60,9 +57,9 @@ commit_recovers layout counter stored len next changes broken writes key beginni
 
 pub recovers_again : (variant : Variant) (key : List ℕ) (storage journal storage' journal' : Option Disk) (content : Option (List ℕ))
     → ((file : List ℕ) (writes : Writes) → IfSome content (IsNoOtherJournal (journal_key variant key) [] writes)
-    → RecoversUnlessForged (journal_key variant key) [] file writes storage journal → RecoversUnlessForged (journal_key variant key) [] file writes storage' journal')
+    → RecoversUnlessOtherJournal (journal_key variant key) [] file writes storage journal → RecoversUnlessOtherJournal (journal_key variant key) [] file writes storage' journal')
     → ((beginning : List ℕ) → KeepsBeginning beginning journal → KeepsBeginning beginning journal')
-    → (before now : List ℕ) (batch : RecoversContentsUnlessForged variant key before now storage journal) → IfSome content (IsHonest batch) → RecoversContentsUnlessForged variant key before now storage' journal'
+    → (before now : List ℕ) (batch : RecoversContentsUnlessOtherJournal variant key before now storage journal) → IfSome content (IsHonest batch) → RecoversContentsUnlessOtherJournal variant key before now storage' journal'
 recovers_again variant key storage journal storage' journal' content next beginning before now batch honest = record {
   layout = batch.layout;
   file = batch.file;
@@ -79,8 +76,8 @@ recovers_again variant key storage journal storage' journal' content next beginn
 
 pub rests_at_contents : (variant : Variant) (key : List ℕ) (storage journal storage' journal' : Option Disk) (content : Option (List ℕ))
     → ((file : List ℕ) (writes : Writes) → IfSome content (IsNoOtherJournal (journal_key variant key) [] writes)
-    → RecoversUnlessForged (journal_key variant key) [] file writes storage journal → RestsAtEither storage' journal' file writes)
-    → (before now : List ℕ) (batch : RecoversContentsUnlessForged variant key before now storage journal) → IfSome content (IsHonest batch) → RestsAtContents variant key before now storage' journal'
+    → RecoversUnlessOtherJournal (journal_key variant key) [] file writes storage journal → RestsAtEither storage' journal' file writes)
+    → (before now : List ℕ) (batch : RecoversContentsUnlessOtherJournal variant key before now storage journal) → IfSome content (IsHonest batch) → RestsAtContents variant key before now storage' journal'
 rests_at_contents variant key storage journal storage' journal' content next before now batch honest = record { file = rests.bytes; rests = rests.rests; one = cases rests.one }
   where
     rests : RestsAtEither storage' journal' batch.file batch.writes
@@ -109,7 +106,7 @@ stored_committed old new contents s has = record {
 }
 
 -- writing the header block over itself, which no journal does, stands for a commit that did not begin
-pub committed_recovers : (layout : Layout) (counter : ℕ) (disk journal : Option Disk) (before now : List ℕ) → IsCommitted layout counter disk journal before → RecoversContentsUnlessForged layout.variant layout.key before now disk journal
+pub committed_recovers : (layout : Layout) (counter : ℕ) (disk journal : Option Disk) (before now : List ℕ) → IsCommitted layout counter disk journal before → RecoversContentsUnlessOtherJournal layout.variant layout.key before now disk journal
 unfolding IsCommitted
 committed_recovers layout counter disk journal before now has =
     let itself : List ℕ = part_at has.bytes 0 512 in
@@ -135,18 +132,18 @@ no_other_journal key writes content is = subst (λ (o : Option (List ℕ)). IfSo
 
 -- what opens to contents that are committed, by an empty journal
 pub committed_batch : (variant : Variant) (key : List ℕ) (storage journal : Option Disk) (content : Option (List ℕ)) (contents : List ℕ) → IsPossible content journal → AreCommitted variant key storage journal contents
-    → (batch : RecoversContentsUnlessForged variant key contents contents storage journal) × IfSome content (IsHonest batch)
+    → (batch : RecoversContentsUnlessOtherJournal variant key contents contents storage journal) × IfSome content (IsHonest batch)
 unfolding AreCommitted IsCommitted
 committed_batch variant key storage journal content contents possible has =
-    let own : RecoversContentsUnlessForged has.0.variant has.0.key contents contents storage journal = committed_recovers has.0 has.1 storage journal contents contents has.4 in
-    let batch = subst (λ (l : List ℕ). RecoversContentsUnlessForged variant l contents contents storage journal) has.3
-    (subst (λ (v : Variant). RecoversContentsUnlessForged v has.0.key contents contents storage journal) has.2 own) in
+    let own : RecoversContentsUnlessOtherJournal has.0.variant has.0.key contents contents storage journal = committed_recovers has.0 has.1 storage journal contents contents has.4 in
+    let batch = subst (λ (l : List ℕ). RecoversContentsUnlessOtherJournal variant l contents contents storage journal) has.3
+    (subst (λ (v : Variant). RecoversContentsUnlessOtherJournal v has.0.key contents contents storage journal) has.2 own) in
     (batch, no_other_journal (journal_key variant key) batch.writes content (readable_certain content journal [] possible has.4.rests.journal_is))
 
 -- ---- a crash
 
-pub crashed_contents : (variant : Variant) (key before now : List ℕ) (storage journal : Option Disk) (disk journal_disk : Disk) (ys js : List ℕ) → RecoversContentsUnlessForged variant key before now storage journal
-    → storage ≡ Some disk → journal ≡ Some journal_disk → Crashed disk ys → Crashed journal_disk js → RecoversContentsUnlessForged variant key before now (Some (certain ys)) (Some (certain js))
+pub crashed_contents : (variant : Variant) (key before now : List ℕ) (storage journal : Option Disk) (disk journal_disk : Disk) (ys js : List ℕ) → RecoversContentsUnlessOtherJournal variant key before now storage journal
+    → storage ≡ Some disk → journal ≡ Some journal_disk → Crashed disk ys → Crashed journal_disk js → RecoversContentsUnlessOtherJournal variant key before now (Some (certain ys)) (Some (certain js))
 crashed_contents variant key before now storage journal disk journal_disk ys js batch is journal_is p q =
     recovers_again variant key storage journal (Some (certain ys)) (Some (certain js)) None
     (λ file writes _ recovers. crashed_recovers (journal_key variant key) [] file writes disk journal_disk ys js (rw (← is, ← journal_is) recovers) p q)

@@ -12,7 +12,7 @@ use Rattle.std.proofs.Math.Seq.{take-add}
 use Rattle.std.proofs.lemmas.Nat.{from_le_bytes-to_le_bytes_4, from_le_bytes-to_le_bytes_8}
 use Rattle.std.specs.Int.{from_le_bytes, to_le_bytes, w32, w64}
 use Rattle.aegis_pages.specs.declared.layout.TheConstants.{HEADER_NUMBER, MAX_CONTENTS_BYTES}
-use Rattle.aegis_storage.specs.Bytes.{part_at}
+use Rattle.aegis_storage.specs.Disk.{part_at}
 
 -- a sealed page opens to one plaintext
 pub opens_one : (layout : Layout) (number : ℕ) (sealed m n : List ℕ) → IsLaneCount layout.variant.lanes → OpensAt layout number sealed m → OpensAt layout number sealed n → m ≡ n

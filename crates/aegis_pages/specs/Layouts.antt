@@ -1,10 +1,11 @@
 -- How a random-access file is laid out: its header, and sealed pages, their associated data and their places.
 use Rattle.std.specs.Prelude.{ℕ, ◌+◌, ◌-◌, ◌*◌, ◌≤◌, List, ◌∷◌, ◌++◌, codes, drop, length, replicate, take, ◌≡◌, ◌^◌, ◌<◌, IfSome, Option}
 use Rattle.std.specs.Int.{to_le_bytes, w32, w64}
-use Rattle.aegis_base.specs.Variant.{Variant, key_length}
+use Rattle.aegis_base.specs.Variant.{Variant, key_length, long_tag_bytes}
 use Rattle.aegis_base.specs.Message.{Opens}
-use Rattle.aegis_storage.specs.Bytes.{part_at}
+use Rattle.aegis_storage.specs.Disk.{part_at}
 use Rattle.aegis_pages.specs.declared.header.FileHeader.{FileHeader}
+use Rattle.aegis_storage.specs.Journal.{journal_beginning_bytes}
 
 -- what all sealed pages of a file are sealed under
 pub record Layout : Type 0 where
@@ -42,13 +43,16 @@ magic = codes "AGP1"
 abbrev pub journal_magic : List ℕ
 journal_magic = codes "AGJ1"
 
--- the first 33 bytes of a header, and of the associated data of each sealed page
+-- the first bytes of a header, and of the associated data of each sealed page, and how many they are
+abbrev pub plaintext_header_bytes : ℕ
+plaintext_header_bytes = 33
+
 unfoldable pub plaintext_header : Layout → List ℕ
 plaintext_header layout = named magic layout
 
 -- the beginning of the file's journals, which has another magic number, and fills a sector with zeros
 unfoldable pub journal_beginning : Layout → List ℕ
-journal_beginning layout = named journal_magic layout ++ replicate 479 0
+journal_beginning layout = named journal_magic layout ++ replicate (journal_beginning_bytes - plaintext_header_bytes) 0
 
 -- the associated data of the sealed page of a number
 unfoldable pub associated_data : Layout → ℕ → List ℕ
@@ -58,17 +62,17 @@ associated_data layout number = plaintext_header layout ++ to_le_bytes w64 numbe
 abbrev pub nonce_bytes : Layout → ℕ
 nonce_bytes layout = key_length layout.variant.family
 
--- the length of a sealed page whose contents have n bytes: a nonce, the ciphertext and a tag of 32 bytes
+-- the length of a sealed page whose contents have n bytes: a nonce, the ciphertext and a tag
 abbrev pub sealed_bytes : Layout → ℕ → ℕ
-sealed_bytes layout n = n + (nonce_bytes layout + 32)
+sealed_bytes layout n = n + (nonce_bytes layout + long_tag_bytes)
 
 -- the bytes of a sealed page between its nonce and its tag
 abbrev pub inner : Layout → List ℕ → List ℕ
-inner layout sealed = take (length sealed - (nonce_bytes layout + 32)) (drop (nonce_bytes layout) sealed)
+inner layout sealed = take (length sealed - (nonce_bytes layout + long_tag_bytes)) (drop (nonce_bytes layout) sealed)
 
 -- the sealed page opens to the contents m, under the file's variant, key and id at this number
 pub record OpensAt (layout : Layout) (number : ℕ) (sealed m : List ℕ) : Type 0 where
-  pub is : Opens layout.variant 32 layout.key (take (nonce_bytes layout) sealed) (associated_data layout number) (inner layout sealed) (drop (length sealed - 32) sealed) m
+  pub is : Opens layout.variant long_tag_bytes layout.key (take (nonce_bytes layout) sealed) (associated_data layout number) (inner layout sealed) (drop (length sealed - long_tag_bytes) sealed) m
 
 -- where page k begins, after the block of the header
 abbrev pub page_place : Layout → ℕ → ℕ
@@ -93,13 +97,17 @@ pub record IsHeaderBlock (layout : Layout) (counter len : ℕ) (header_block : L
   pub size : IsPageSize layout.page_bytes
   pub within : len ≤ max_contents_bytes
   pub countable : counter < 2 ^ 64
-  pub plaintext : take 33 header_block ≡ plaintext_header layout
-  pub opens : OpensAt layout header_number (part_at header_block 33 (sealed_bytes layout 16)) (header_plaintext counter len)
+  pub plaintext : take plaintext_header_bytes header_block ≡ plaintext_header layout
+  pub opens : OpensAt layout header_number (part_at header_block plaintext_header_bytes (sealed_bytes layout 16)) (header_plaintext counter len)
+
+-- how many bytes a header block has: a sector
+abbrev pub header_block_bytes : ℕ
+header_block_bytes = 512
 
 -- the file begins with a header block that has this header
 pub record IsHeader (layout : Layout) (counter len : ℕ) (file : List ℕ) : Type 0 where
-  pub whole : 512 ≤ length file
-  pub is : IsHeaderBlock layout counter len (part_at file 0 512)
+  pub whole : header_block_bytes ≤ length file
+  pub is : IsHeaderBlock layout counter len (part_at file 0 header_block_bytes)
 
 -- the layout that a header names, for a variant and a key
 abbrev pub layout_of : Variant → List ℕ → FileHeader → Layout

@@ -1,7 +1,4 @@
-pub mod Changed
-pub mod Commitments
 pub mod Commits
-pub mod Errors
 pub mod Layouts
 pub mod OpenFile
-pub mod SealedPages
+pub mod Private

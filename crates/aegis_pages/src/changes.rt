@@ -1,7 +1,7 @@
 //! Pages that were changed and not committed.
 
 ghost use Rattle.std.specs.Prelude.{◌≡◌, ◌≢◌, ◌*◌, ◌≤◌, ◌^◌, IfOk, None, OnOk, Some, false, length, true, ℕ};
-ghost use Rattle.aegis_pages.specs.Changed.{contents_at};
+ghost use Rattle.aegis_pages.specs.OpenFile.{contents_at};
 
 use crate::layout::MAX_CONTENTS_BYTES;
 use std::alloc::{AllocError, Allocator};
@@ -38,7 +38,7 @@ pub struct ChangedPages<A: Allocator> {
 }
 
 impl<A: Allocator> Model for ChangedPages<A> {
-    ghost use Rattle.aegis_pages.specs.Changed.{ChangedPlaintexts, plaintexts_in, FitPages};
+    ghost use Rattle.aegis_pages.specs.Private.{ChangedPlaintexts, plaintexts_in, FitPages};
 
     ghost Value = { ChangedPlaintexts };
 

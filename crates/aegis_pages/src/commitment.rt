@@ -4,8 +4,7 @@
 //! over the newest header's counter and length, stands for the whole file.
 
 ghost use Rattle.std.specs.Prelude.{◌≡◌, ◌*◌, ◌≤◌, false, IfErr, IfOk, IfSome, OnOk};
-ghost use Rattle.aegis_pages.specs.Commitments.{commitment, page_tag};
-ghost use Rattle.aegis_pages.specs.Errors.{IsReadError, IsVerifyRefusal};
+ghost use Rattle.aegis_pages.specs.Commits.{IsReadError, IsVerifyRefusal, commitment, page_tag};
 
 use crate::error::PagesError;
 use crate::layout::{FileLayout, MAX_CONTENTS_BYTES, TAG_BYTES};

@@ -3,8 +3,8 @@
 ghost use Rattle.std.specs.Prelude.{◌≡◌, ◌+◌, ◌<◌, ◌≤◌, ◌^◌, IfErr, IfNone, IfOk, IfSome, IsSome, Some, length, ℕ};
 ghost use Rattle.std.specs.Int.{to_le_bytes, w64};
 ghost use Rattle.aegis_base.specs.Variant.{key_length};
-ghost use Rattle.aegis_storage.specs.Bytes.{part_at};
-ghost use Rattle.aegis_pages.specs.Errors.{IsReadError};
+ghost use Rattle.aegis_storage.specs.Disk.{part_at};
+ghost use Rattle.aegis_pages.specs.Commits.{IsReadError};
 ghost use Rattle.aegis_pages.specs.Layouts.{HasNoHeader, IsHeaderBlock, header_plaintext, IsPageSize, Layout, OpensAt, sealed_bytes, nonce_bytes, HasHeader, layout_of};
 
 use crate::error::PagesError;

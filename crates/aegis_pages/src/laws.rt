@@ -3,11 +3,9 @@
 ghost use Rattle.std.specs.Prelude.{◌≡◌, ◌+◌, ◌≤◌, IfSome, List, Option, Some, length, ℕ};
 ghost use Rattle.aegis_aes.specs.Lanes.{IsLaneCount};
 ghost use Rattle.aegis_base.specs.Variant.{Variant};
-ghost use Rattle.aegis_storage.specs.Bytes.{overwritten, part_at};
-ghost use Rattle.aegis_pages.specs.Commitments.{HasOneCommitment, commitment};
+ghost use Rattle.aegis_storage.specs.Disk.{Crashed, Disk, certain, overwritten, part_at};
+ghost use Rattle.aegis_pages.specs.Commits.{HasHonestHeader, HasOneCommitment, IsHonest, IsLeftByCommit, RecoversContentsUnlessOtherJournal, RecoversOneUnlessOtherJournal, commitment};
 ghost use Rattle.aegis_pages.specs.Layouts.{IsHeader};
-ghost use Rattle.aegis_storage.specs.Disk.{Crashed, Disk, certain};
-ghost use Rattle.aegis_pages.specs.Commits.{HasHonestHeader, IsHonest, IsLeftByCommit, RecoversContentsUnlessForged, RecoversOneUnlessForged};
 ghost use Rattle.aegis_pages.specs.OpenFile.{AreCommitted, HasCommitted, HasContents, IsStoredAs, IsUnchanged, OpenFile};
 
 /// A part that was written is what is read at its place.
@@ -66,10 +64,10 @@ pub fn stored_is_committed()
 pub fn recovers_after_a_crash()
     ensures { (variant : Variant) (key before now : List ℕ) (storage journal : Option Disk)
         (disk journal_disk : Disk) (ys js : List ℕ)
-        → RecoversContentsUnlessForged variant key before now storage journal
+        → RecoversContentsUnlessOtherJournal variant key before now storage journal
         → storage ≡ Some disk → journal ≡ Some journal_disk
         → Crashed disk ys → Crashed journal_disk js
-        → RecoversContentsUnlessForged variant key before now (Some (certain ys))
+        → RecoversContentsUnlessOtherJournal variant key before now (Some (certain ys))
         (Some (certain js)) }
 {}
 
@@ -88,7 +86,7 @@ pub fn committed_after_a_crash()
 pub fn recovered_is_left_by_a_commit()
     ensures { (variant : Variant) (key before now : List ℕ) (bytes content : Option (List ℕ))
         (storage journal : Option Disk)
-        → (batch : RecoversContentsUnlessForged variant key before now storage journal)
+        → (batch : RecoversContentsUnlessOtherJournal variant key before now storage journal)
         → IfSome content (IsHonest batch) → IfSome bytes (HasHonestHeader batch)
         → IsLeftByCommit variant key bytes content storage journal }
 {}
@@ -97,13 +95,13 @@ pub fn recovered_is_left_by_a_commit()
 #[tactic(auto, unfolding(crate::specs::Commits::RecoversUnder), using(crate::proofs::RecoveryFacts::committed_recovers))]
 pub fn committed_recovers()
     ensures { (file : OpenFile) (before now : List ℕ) → HasCommitted file before
-        → RecoversOneUnlessForged file before now }
+        → RecoversOneUnlessOtherJournal file before now }
 {}
 
 /// What a crash may leave, by its parts, as `open` takes it.
 #[tactic(auto, unfolding(crate::specs::Commits::RecoversUnder))]
 pub fn recovers_contents()
-    ensures { (file : OpenFile) (before now : List ℕ) → RecoversOneUnlessForged file before now
-        → RecoversContentsUnlessForged file.layout.variant file.layout.key before now
+    ensures { (file : OpenFile) (before now : List ℕ) → RecoversOneUnlessOtherJournal file before now
+        → RecoversContentsUnlessOtherJournal file.layout.variant file.layout.key before now
         file.disk file.journal }
 {}

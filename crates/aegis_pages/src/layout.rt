@@ -2,7 +2,7 @@
 
 ghost use Rattle.std.specs.Prelude.{◌≡◌, ◌+◌, ◌*◌, ◌<◌, ◌≤◌, ◌↔◌, IfSome, IsSome, IsTrue, length, ℕ};
 ghost use Rattle.aegis_base.specs.Variant.{key_length};
-ghost use Rattle.aegis_pages.specs.Commitments.{page_count};
+ghost use Rattle.aegis_pages.specs.Commits.{page_count};
 ghost use Rattle.aegis_pages.specs.Layouts.{IsPageSize, Layout, associated_data, sealed_bytes, plaintext_header, journal_beginning, named, nonce_bytes, page_place, variant_byte};
 
 use aegis_aes::Row;

@@ -4,8 +4,7 @@ ghost use Rattle.std.specs.Prelude.{◌≡◌, ◌≢◌, ◌+◌, ◌≤◌, �
 ghost use Rattle.aegis_base.specs.Variant.{key_length};
 ghost use Rattle.aegis_storage.specs.Disk.{Writes};
 ghost use Rattle.aegis_storage.specs.Journal.{AreWithin, entries};
-ghost use Rattle.aegis_pages.specs.Commits.{AreWritesOf, BeginsWith, EndsWith, Fits, IsAccepted, IsLeftByCommit, IsOfAnother, IsOfCommit, MakesNoOther, RecoversContentsUnlessForged, RestsAtContents, journal_key};
-ghost use Rattle.aegis_pages.specs.Errors.{IsLeftAlone, IsOpenRefusal};
+ghost use Rattle.aegis_pages.specs.Commits.{AreWritesOf, BeginsWith, EndsWith, Fits, IsAccepted, IsLeftAlone, IsLeftByCommit, IsOfAnother, IsOfCommit, IsOpenRefusal, MakesNoOther, RecoversContentsUnlessOtherJournal, RestsAtContents, journal_key};
 ghost use Rattle.aegis_pages.specs.Layouts.{IsPageSize, HasHeader};
 
 use crate::error::PagesError;
@@ -165,14 +164,14 @@ pub fn recover_file<
     ensures kept { OnOk result (J.bytes journal.old ≡ Some []
         → IfSome (S.bytes storage.old) (λ xs. S.bytes storage.new ≡ Some xs)) }
     ensures recovers { (before now : List ℕ)
-        → (batch : RecoversContentsUnlessForged L.VARIANT key.now before now
+        → (batch : RecoversContentsUnlessOtherJournal L.VARIANT key.now before now
         (S.disk storage.old) (J.disk journal.old))
         → IfSome (S.bytes storage.old) (λ file.
         IfSome (J.bytes journal.old) (MakesNoOther batch file))
-        → RecoversContentsUnlessForged L.VARIANT key.now before now
+        → RecoversContentsUnlessOtherJournal L.VARIANT key.now before now
         (S.disk storage.new) (J.disk journal.new) }
     ensures rests { OnOk result ((before now : List ℕ)
-        → (batch : RecoversContentsUnlessForged L.VARIANT key.now before now
+        → (batch : RecoversContentsUnlessOtherJournal L.VARIANT key.now before now
         (S.disk storage.old) (J.disk journal.old))
         → IfSome (S.bytes storage.old) (λ file.
         IfSome (J.bytes journal.old) (MakesNoOther batch file))

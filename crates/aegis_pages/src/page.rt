@@ -4,7 +4,7 @@
 
 ghost use Rattle.std.specs.Prelude.{◌≡◌, ◌+◌, ◌*◌, ◌-◌, ◌≤◌, ◌⊎◌, ◌^◌, IfErr, IfOk, IfSome, List, OnOk, length, take, true, ℕ};
 ghost use Rattle.aegis_pages.specs.Layouts.{OpensAt, sealed_bytes, inner, nonce_bytes, page_at, page_place};
-ghost use Rattle.aegis_pages.specs.Errors.{IsReadError, IsSealError};
+ghost use Rattle.aegis_pages.specs.Commits.{IsReadError, IsSealError};
 
 use crate::draws::Nonces;
 use crate::error::PagesError;

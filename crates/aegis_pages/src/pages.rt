@@ -2,15 +2,11 @@
 
 ghost use Rattle.std.specs.Prelude.{◌≡◌, ◌≢◌, ◌+◌, ◌-◌, ◌<◌, ◌≤◌, ◌^◌, ◌↔◌, ◌⊎◌, [], Err, IfErr, IfOk, IfSome, IsTrue, List, None, OnErr, OnOk, Some, if◌then◌else◌, false, is_ok, length, max, min, replicate, true, ℕ};
 ghost use Rattle.aegis_base.specs.Variant.{Variant, key_length};
-ghost use Rattle.aegis_storage.specs.Bytes.{overwritten, part_at, resized};
-ghost use Rattle.aegis_storage.specs.Disk.{Disk, certain};
-ghost use Rattle.aegis_pages.specs.Changed.{contents_at};
-ghost use Rattle.aegis_pages.specs.Commitments.{commitment};
-ghost use Rattle.aegis_pages.specs.Commits.{Fits, IsLeftByCommit, MakesNoOther, RecoversContentsUnlessForged, RecoversOneUnlessForged};
-ghost use Rattle.aegis_pages.specs.Errors.{Breaks, IsBeginError, IsBeginRefusal, IsCommitRefusal, IsCommitmentRefusal, IsCreateRefusal, IsOpenRefusal, IsReadRefusal, IsVerifyRefusal, IsWriteRefusal};
+ghost use Rattle.aegis_storage.specs.Disk.{Disk, certain, overwritten, part_at, resized};
+ghost use Rattle.aegis_pages.specs.OpenFile.{AreCommitted, HasCommitted, HasContents, IsFileOf, IsKnown, IsStoredAs, IsUnchanged, KeepsOthers, OpenFile, OpensAtOne, Reads, contents_at};
+ghost use Rattle.aegis_pages.specs.Commits.{Breaks, Fits, IsBeginError, IsBeginRefusal, IsCommitRefusal, IsCommitmentRefusal, IsCreateRefusal, IsLeftByCommit, IsOpenRefusal, IsReadRefusal, IsVerifyRefusal, IsWriteRefusal, MakesNoOther, RecoversContentsUnlessOtherJournal, RecoversOneUnlessOtherJournal, commitment};
+ghost use Rattle.aegis_pages.specs.Private.{IsCertain};
 ghost use Rattle.aegis_pages.specs.Layouts.{IsHeader, IsPageSize};
-ghost use Rattle.aegis_pages.specs.OpenFile.{AreCommitted, HasCommitted, HasContents, IsCertain, IsKnown, IsStoredAs, IsUnchanged, OpenFile, OpensAtOne, Reads};
-ghost use Rattle.aegis_pages.specs.SealedPages.{IsFileOf, KeepsOthers};
 
 use crate::changes::{ChangedPages, PageContents, empty_contents};
 use crate::commitment::{file_commitment, verify_commitment};
@@ -224,7 +220,7 @@ impl<
             → IfSome (S.bytes storage) (λ file. (contents : List ℕ)
             → IsFileOf L.VARIANT key.now contents file → HasContents pages contents)) }
         ensures recovered { IfOk result (λ pages. (before now : List ℕ)
-            → (batch : RecoversContentsUnlessForged L.VARIANT key.now before now
+            → (batch : RecoversContentsUnlessOtherJournal L.VARIANT key.now before now
             (S.disk storage) (J.disk journal))
             → IfSome (S.bytes storage) (λ file.
             IfSome (J.bytes journal) (MakesNoOther batch file))
@@ -392,12 +388,12 @@ impl<
     /// file is broken: reads, changes and commits of a broken one return [`PagesError::Broken`]. Open it again, which
     /// gives the contents before the changes or those after them.
     pub fn commit(&mut self) -> Result<(), PagesError>
-        ensures layout { self.new.layout ≡ self.old.layout }
-        ensures len { self.new.len ≡ self.old.len }
+        ensures kept { (self.new.layout ≡ self.old.layout) × (self.new.len ≡ self.old.len) }
+        ensures counted { OnOk result (self.new.counter ≡ self.old.counter + 1) }
         ensures committed { OnOk result ((contents : List ℕ) → HasContents self.old contents
             → HasContents self.new contents) }
         ensures crash { (before now : List ℕ) → HasCommitted self.old before
-            → HasContents self.old now → RecoversOneUnlessForged self.new before now }
+            → HasContents self.old now → RecoversOneUnlessOtherJournal self.new before now }
         ensures certain { OnOk result ((before now : List ℕ) → HasCommitted self.old before
             → HasContents self.old now → HasCommitted self.new now) }
         ensures broken { self.old.broken ≡ true → result ≡ Err PagesError.Broken }
@@ -502,6 +498,7 @@ impl<
     pub fn commitment(&self) -> Result<[u8; 32], PagesError>
         ensures is { IfOk result (λ mac. IfSome self.now.bytes
             (λ file. mac ≡ commitment self.now.layout self.now.counter self.now.stored file)) }
+        ensures broken { self.now.broken ≡ true → result ≡ Err PagesError.Broken }
         ensures refused { IfErr result (IsCommitmentRefusal self.now.broken) }
     {
         if self.is_broken {
@@ -517,6 +514,7 @@ impl<
     pub fn verify(&self, expected: &[u8; 32]) -> Result<(), PagesError>
         ensures is { OnOk result (IfSome self.now.bytes (λ file. expected.now
             ≡ commitment self.now.layout self.now.counter self.now.stored file)) }
+        ensures broken { self.now.broken ≡ true → result ≡ Err PagesError.Broken }
         ensures refused { IfErr result (IsVerifyRefusal self.now.broken self.now.layout
             self.now.counter self.now.stored self.now.bytes expected.now) }
     {

@@ -1,11 +1,11 @@
 //! Reading and writing the bytes of contents across pages.
 
 ghost use Rattle.std.specs.Prelude.{◌≡◌, ◌+◌, ◌*◌, ◌-◌, ◌<◌, ◌≤◌, ◌⊎◌, ◌^◌, min, false, IfErr, IfSome, List, OnOk, length, slice_index, ℕ};
-ghost use Rattle.aegis_storage.specs.Bytes.{overwritten};
-ghost use Rattle.aegis_pages.specs.Changed.{contents_at};
-ghost use Rattle.aegis_pages.specs.Errors.{IsReadRefusal, IsShowRefusal, IsWriteRefusal};
+ghost use Rattle.aegis_storage.specs.Disk.{overwritten};
+ghost use Rattle.aegis_pages.specs.OpenFile.{ArePages, IsByte, IsPage, KeepsOthers, Shows, contents_at};
+ghost use Rattle.aegis_pages.specs.Commits.{IsReadRefusal, IsWriteRefusal};
+ghost use Rattle.aegis_pages.specs.Private.{IsShowRefusal, WritesContents};
 ghost use Rattle.aegis_pages.specs.Layouts.{sealed_bytes, inner};
-ghost use Rattle.aegis_pages.specs.SealedPages.{ArePages, IsByte, IsPage, KeepsOthers, Shows, WritesContents};
 
 use crate::changes::ChangedPages;
 use crate::error::PagesError;

@@ -2,11 +2,10 @@
 
 ghost use Rattle.std.specs.Prelude.{◌≡◌, ◌≤◌, ◌++◌, IfErr, IfOk, List, OnOk, length, take, ℕ};
 ghost use Rattle.aegis_storage.specs.Disk.{Writes, after_writes, writes_of};
-ghost use Rattle.aegis_pages.specs.Changed.{contents_at, plaintexts_in, FitPages, HaveOnePlaintext, Seals};
-ghost use Rattle.aegis_pages.specs.Commits.{IsOfCommit, head_bytes, head_of};
-ghost use Rattle.aegis_pages.specs.Errors.{IsSealError};
+ghost use Rattle.aegis_pages.specs.OpenFile.{ArePages, IsSealed, contents_at};
+ghost use Rattle.aegis_pages.specs.Private.{plaintexts_in, FitPages, HaveOnePlaintext, Seals};
+ghost use Rattle.aegis_pages.specs.Commits.{IsOfCommit, IsSealError, head_bytes, head_of};
 ghost use Rattle.aegis_pages.specs.Layouts.{IsHeaderBlock};
-ghost use Rattle.aegis_pages.specs.SealedPages.{ArePages, IsSealed};
 
 use crate::changes::{ChangedPages, PageContents};
 use crate::draws::Nonces;

@@ -7,7 +7,8 @@ use Rattle.std.proofs.lemmas.List.Folds.{list_any-append}
 use Rattle.std.specs.List.{list_any}
 use Rattle.std.specs.Io.KnownBytes.{Appends, Keeps}
 use Rattle.aegis_lines.specs.Answer.{IsAnswer}
-use Rattle.aegis_session.specs.Output.{Answers, AnswersSome, AreAnswers, is_error, output_of}
+use Rattle.aegis_session.specs.Private.{Answers}
+use Rattle.aegis_session.specs.Output.{AnswersSome, AreAnswers, is_error, output_of}
 
 AreAnswers-append : (lines texts lines' texts' : List (List ℕ)) → AreAnswers lines texts → AreAnswers lines' texts' → AreAnswers (lines ++ lines') (texts ++ texts')
 AreAnswers-append [] [] lines' texts' p q = q

@@ -6,7 +6,8 @@ use Rattle.std.specs.Io.BufRead.{strip_last}
 use Rattle.std.proofs.KnownBytes.{Appends-nil, Consumes-all, Consumes-kept, Consumes-nil, Consumes-trans}
 use Rattle.std.proofs.lemmas.Bool.{true≢false}
 use Rattle.std.specs.Io.KnownBytes.{Consumes, IsAtEnd, Keeps}
-use Rattle.aegis_session.specs.Output.{lines_of, lines_after, pieces, with_byte, with_bytes, lines, Answers, AnswersRead, AnswersSome}
+use Rattle.aegis_session.specs.Output.{lines_of, pieces, with_byte, lines, AnswersRead, AnswersSome}
+use Rattle.aegis_session.specs.Private.{lines_after, with_bytes, Answers}
 use Rattle.aegis_session.proofs.OutputFacts.{appends_none, more_answers, more_beginning, no_answers, no_beginning}
 
 pub lines_after-none : (ends : Bool) (text : List ℕ) → lines_after ends [] text ≡ lines_of ends text

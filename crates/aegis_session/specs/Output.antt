@@ -1,5 +1,5 @@
 -- The lines of a text, and the output of the line program and its exit status.
-use Rattle.std.specs.Prelude.{ℕ, Bool, true, ◌==◌, List, [], ◌∷◌, map, if◌then◌else◌, ◌≡◌, ◌||◌, ◌++◌, Option, Some, codes, flat_map}
+use Rattle.std.specs.Prelude.{ℕ, Bool, true, ◌==◌, List, [], ◌∷◌, map, if◌then◌else◌, ◌≡◌, ◌++◌, Option, Some, codes, flat_map}
 use Rattle.std.specs.Io.BufRead.{strip_last}
 use Rattle.std.specs.List.{list_any, starts_with}
 use Rattle.std.specs.Io.KnownBytes.{Appends, Consumes, IsAtEnd}
@@ -25,15 +25,6 @@ lines_of ends text = map (strip_last 13) (pieces ends text)
 abbrev pub lines : List ℕ → List (List ℕ)
 lines text = lines_of true text
 
--- the pieces with these bytes in front of the first one; if there are none, the bytes alone, if the text ends
-abbrev pub with_bytes : Bool → List ℕ → List (List ℕ) → List (List ℕ)
-with_bytes ends [] pieces = pieces
-with_bytes ends (byte ∷ bytes) pieces = with_byte ends byte (with_bytes ends bytes pieces)
-
--- the lines of a text after the bytes `begun`, in which no line ends
-unfoldable pub lines_after : Bool → List ℕ → List ℕ → List (List ℕ)
-lines_after ends begun text = map (strip_last 13) (with_bytes ends begun (pieces ends text))
-
 -- ---- the output
 
 -- each text answers its line, in order
@@ -51,8 +42,7 @@ output_of texts = flat_map (λ text. text ++ 10 ∷ []) texts
 abbrev pub is_error : List ℕ → Bool
 is_error text = starts_with ◌==◌ text (codes "error ")
 
--- Every line is answered: from `old` to `new`, the answers were written, with a line feed after each. The status is 1 if
--- one of them begins with `error `, and otherwise 0.
+-- Every line is answered, with a line feed after each answer. The status is 1 if one begins with `error `, and otherwise 0.
 pub record AnswersAll (lines : List (List ℕ)) (old new : Option (List ℕ)) (status : ℕ) : Type 0 where
   pub texts : List (List ℕ)
   pub answers : AreAnswers lines texts
@@ -79,13 +69,3 @@ pub record AnswersRead (bytes : List ℕ) (left old new : Option (List ℕ)) : T
   pub split : Consumes (Some bytes) left read
   pub at_end : ends ≡ true → IsAtEnd left
   pub written : AnswersSome (lines_of ends read) old new
-
--- All lines of `before` but those of `after` were answered: from `old` to `new`, the answers were written, and `sees`
--- is true if `saw` is or an answer begins with `error `.
-pub record Answers (before after : List (List ℕ)) (saw sees : Bool) (old new : Option (List ℕ)) : Type 0 where
-  pub answered : List (List ℕ)
-  pub texts : List (List ℕ)
-  pub split : before ≡ answered ++ after
-  pub answers : AreAnswers answered texts
-  pub written : Appends old new (output_of texts)
-  pub errors : sees ≡ (saw || list_any is_error texts)

@@ -3,7 +3,8 @@
 ghost use Rattle.std.specs.Prelude.{◌≡◌, ◌≤◌, ℕ, Bool, List, [], ◌∷◌, ◌++◌, true, false, IfOk, IfSome, OnErr, OnOk};
 ghost use Rattle.std.specs.Io.BufRead.{strip_last};
 ghost use Rattle.std.specs.Io.KnownBytes.{IsAtEnd};
-ghost use Rattle.aegis_session.specs.Output.{lines, lines_after, Answers, AnswersAll, AnswersRead, AnswersSome};
+ghost use Rattle.aegis_session.specs.Output.{lines, AnswersAll, AnswersRead, AnswersSome};
+ghost use Rattle.aegis_session.specs.Private.{lines_after, Answers};
 
 use crate::output::write_whole;
 use aegis_lines::answer_line;

@@ -2,8 +2,7 @@
 use Rattle.std.specs.Prelude.{⊤}
 use Rattle.std.proofs.Common.{◌≡◌, ℕ, ◌+◌, ◌<◌, ◌≤◌, ◌⊎◌, inl, inr, List, [], ◌∷◌, ◌++◌, None, Some, OnErr, OnOk, Option, Result, Ok, Err, get_or, length, max, refl, sym, subst, ap, ◌∙◌, arith}
 use Rattle.std.proofs.lemmas.List.{append-nil, append_assoc, ext_get_or}
-use Rattle.aegis_storage.specs.Bytes.{overwritten, resized}
-use Rattle.aegis_storage.specs.Disk.{AreLeftOf, AreParts, Change, CrashLeaves, Crashed, Disk, IsPart, IsPartOfOne, IsPossible, IsWithin, MakesSynced, SettlesTo, Size, Write, Writes, after, applied, certain, changed, changes, after_writes, spoilt}
+use Rattle.aegis_storage.specs.Disk.{AreLeftOf, AreParts, Change, CrashLeaves, Crashed, Disk, IsPart, IsPartOfOne, IsPossible, IsWithin, MakesSynced, SettlesTo, Size, Write, Writes, after, after_writes, applied, certain, changed, changes, overwritten, resized, spoilt}
 use Rattle.aegis_storage.specs.Steps.{LeavesNoMore}
 use Rattle.aegis_storage.proofs.Overwriting.{after_part, before_part, length-overwritten, within_part}
 

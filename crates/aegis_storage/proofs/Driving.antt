@@ -1,8 +1,9 @@
 -- Commits and recoveries whose steps stopped, or came to their end.
 use Rattle.std.proofs.Common.{◌≡◌, ℕ, List, [], Err, IfSome, None, OnOk, Ok, Option, Result, Some, ap, length, subst, subst₂, sym, take, ◌∙◌}
 use Rattle.aegis_storage.specs.Disk.{Crashed, Disk, IsPossible, Writes, WritesAll, after_writes, certain}
-use Rattle.aegis_storage.specs.Journal.{IsAtRest, IsJournal, IsNoOtherJournal, KeepsBeginning, RecoversKnown, RecoversUnlessForged, RestsAtEither}
-use Rattle.aegis_storage.specs.Steps.{AreRedone, Held, Knows, LeavesOne, Recoverable, Taken, commit_steps, held, journal_effect, recovery_steps, storage_effect}
+use Rattle.aegis_storage.specs.Journal.{IsAtRest, IsJournal, IsNoOtherJournal, KeepsBeginning, RecoversKnown, RecoversUnlessOtherJournal, RestsAtEither}
+use Rattle.aegis_storage.specs.Steps.{AreRedone, Held, Recoverable, Taken, commit_steps, held, journal_effect, recovery_steps, storage_effect, StopsInCommit}
+use Rattle.aegis_storage.specs.Private.{Knows, LeavesOne}
 use Rattle.aegis_storage.proofs.Disks.{readable, readable_certain}
 use Rattle.aegis_storage.proofs.StepLaws.{commit_begins, commit_recovers, commit_rests, recovery_begins, recovery_recovers, recovery_rests}
 use Rattle.aegis_storage.proofs.Stepping.{Stopped, known_redone}
@@ -17,7 +18,7 @@ rests_known : (b : Option (List ℕ)) (d : Option Disk) (xs : List ℕ) → IsPo
 rests_known b d xs possible is = (readable_certain b d xs possible is, is)
 
 pub commit_stopped : (key context xs js : List ℕ) (writes : Writes) (sb jb : Option (List ℕ)) (sd sd' jd jd' : Option Disk) → IsPossible sb sd → IsPossible jb jd → IsJournal key context writes js → IsAtRest sd jd xs
-    → Stopped writes js (commit_steps (length writes)) sb jb sd sd' jd jd' → RecoversUnlessForged key context xs writes sd' jd'
+    → Stopped writes js (commit_steps (length writes)) sb jb sd sd' jd jd' → RecoversUnlessOtherJournal key context xs writes sd' jd'
 commit_stopped key context xs js writes sb jb sd sd' jd jd' p q whole rest stopped =
     let s = stopped.1 (held xs) (rests_known sb sd xs p rest.storage_is) in
     let j = stopped.2 (held []) (rests_known jb jd [] q rest.journal_is) in rw (s.is, j.is) (commit_recovers key context js xs writes stopped.0 s.new j.new whole s.so j.so)
@@ -34,6 +35,14 @@ commit_ended key context xs js writes sb jb sd sd' jd jd' p q whole storage jour
     let s = storage (held xs) (rests_known sb sd xs p rest.storage_is) in
     let j = journal (held []) (rests_known jb jd [] q rest.journal_is) in rw (s.is, j.is) (commit_rests key context js xs writes s.new j.new whole s.so j.so)
 
+pub commit_stops : (key context xs js made : List ℕ) (writes : Writes) (sb jb : Option (List ℕ)) (sd sd' jd jd' : Option Disk) → IsPossible sb sd → IsPossible jb jd → IsJournal key context writes made → made ≡ js → IsAtRest sd jd xs
+    → Stopped writes made (commit_steps (length writes)) sb jb sd sd' jd jd' → StopsInCommit key context js xs writes sd' jd'
+commit_stops key context xs js made writes sb jb sd sd' jd jd' p q whole is rest stopped =
+    let s = stopped.1 (held xs) (rests_known sb sd xs p rest.storage_is) in
+    let j = stopped.2 (held []) (rests_known jb jd [] q rest.journal_is) in
+    subst (λ (l : List ℕ). StopsInCommit key context l xs writes sd' jd') is
+    (record { step = stopped.0; s = s.new; j = j.new; whole = whole; storage_is = s.is; journal_is = j.is; storage_stops = s.so; journal_stops = j.so })
+
 -- ---- a recovery
 
 -- what a recovery begins with, where the disks are known
@@ -45,7 +54,7 @@ pub record Start (key context xs : List ℕ) (writes found : Writes) (sb jb : Op
   pub recoverable : Recoverable key context xs writes found s (record { bytes = js; disk = disk })
 
 pub recover_starts : (key context xs : List ℕ) (writes found : Writes) (sb jb : Option (List ℕ)) (sd jd : Option Disk) (read js : List ℕ) → IsPossible sb sd → IsPossible jb jd → IfSome jb (λ ys. read ≡ ys) → js ≡ read
-    → AreRedone key context js found → IfSome jb (IsNoOtherJournal key context writes) → RecoversUnlessForged key context xs writes sd jd → Start key context xs writes found sb jb sd jd js
+    → AreRedone key context js found → IfSome jb (IsNoOtherJournal key context writes) → RecoversUnlessOtherJournal key context xs writes sd jd → Start key context xs writes found sb jb sd jd js
 recover_starts key context xs writes found sb jb sd jd read js p q is_read same redone no_other_journal recovers =
     let x = readable sb sd recovers.storage_disk p recovers.storage_is in
     let y = readable jb jd recovers.journal_disk q recovers.journal_is in
@@ -57,14 +66,14 @@ recover_starts key context xs writes found sb jb sd jd read js p q is_read same 
       recoverable = record {
         storage = x.possible;
         journal = subst (λ (l : List ℕ). Crashed recovers.journal_disk l) (sym are) y.possible;
-        recovers = subst₂ (λ (a b : Option Disk). RecoversUnlessForged key context xs writes a b) recovers.storage_is recovers.journal_is recovers;
+        recovers = subst₂ (λ (a b : Option Disk). RecoversUnlessOtherJournal key context xs writes a b) recovers.storage_is recovers.journal_is recovers;
         no_other_journal = subst (λ (l : List ℕ). IsNoOtherJournal key context writes l) (sym are) (rw y.is at no_other_journal);
         redone = redone;
       };
     }
 
 pub recover_stopped : (key context xs : List ℕ) (writes found : Writes) (sb jb : Option (List ℕ)) (sd sd' jd jd' : Option Disk) (js : List ℕ) → Start key context xs writes found sb jb sd jd js
-    → Stopped found js (recovery_steps (length found)) sb jb sd sd' jd jd' → RecoversUnlessForged key context xs writes sd' jd'
+    → Stopped found js (recovery_steps (length found)) sb jb sd sd' jd jd' → RecoversUnlessOtherJournal key context xs writes sd' jd'
 recover_stopped key context xs writes found sb jb sd sd' jd jd' js start stopped =
     let s = stopped.1 start.s start.storage in
     let j = stopped.2 (record { bytes = js; disk = start.disk }) start.journal in

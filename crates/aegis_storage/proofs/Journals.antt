@@ -5,7 +5,7 @@ use Rattle.std.proofs.lemmas.List.{append-nil, append_assoc, map-append, take-ap
 use Rattle.std.proofs.lemmas.Nat.{from_le_bytes-to_le_bytes_8}
 use Rattle.std.specs.Int.{to_le_bytes, w64}
 use Rattle.aegis_storage.specs.declared.pending.PendingWrite.{PendingWrite}
-use Rattle.aegis_storage.specs.Journal.{AreWithin, entries, entry, Gives, GivesOneOf, IsAtRest, IsFramed, IsJournal, IsOneOf, IsNoOtherJournal, IsSafe, RecoversUnlessForged, RecoversKnown, authenticated, HasBeginning, KeepsBeginning}
+use Rattle.aegis_storage.specs.Journal.{AreWithin, entries, entry, Gives, GivesOneOf, IsAtRest, IsFramed, IsJournal, IsOneOf, IsNoOtherJournal, IsSafe, RecoversUnlessOtherJournal, RecoversKnown, authenticated, HasBeginning, KeepsBeginning, framed, journal_length}
 use Rattle.aegis_storage.specs.Disk.{writes_of, Crashed, Disk, IsWithin, Size, Writes, WritesAll, certain, changes, after_writes, Change, IsPartOfOne, Write, after, changed}
 use Rattle.aegis_base.specs.Mac.{mac}
 use Rattle.aegis_base.specs.Variant.{Aegis128L}
@@ -91,6 +91,10 @@ framed_parts key context xs journal is beginning nonce content end p q r are =
 pub length-framed : (key context content journal : List ℕ) → IsFramed key context content journal → 560 ≤ length journal
 length-framed key context content journal is = grind (arith, common_steps, long-mac key is.nonce (authenticated context content))
 
+pub length-journal : (key context beginning nonce : List ℕ) (writes : Writes) (journal : List ℕ) → length beginning ≡ 512 → length nonce ≡ 16 → journal ≡ framed key beginning nonce context (entries writes)
+    → length journal ≡ journal_length writes
+length-journal key context beginning nonce writes journal p q are = grind (arith, common_steps, p, q, long-mac key nonce (authenticated context (entries writes)))
+
 pub one_content : (key context xs ys journal : List ℕ) → IsFramed key context xs journal → IsFramed key context ys journal → xs ≡ ys
 one_content key context xs ys journal p q =
     (framed_parts key context ys journal q p.beginning p.nonce xs _ p.beginning_size p.nonce_size (long-mac key p.nonce (authenticated context xs)) p.are).0
@@ -159,7 +163,7 @@ one_written writes xs zs (inr all) = ap (after_writes writes) all ∙ again writ
 
 -- What the storage holds is certain: whatever journal a crash leaves, recovery gives the bytes, or all the writes over them.
 pub any_journal : (key context xs : List ℕ) (writes : Writes) (zs : List ℕ) (storage journal : Disk) → IsOneOf xs (after_writes writes xs) zs → IsWithin storage (certain zs)
-    → RecoversUnlessForged key context xs writes (Some storage) (Some journal)
+    → RecoversUnlessOtherJournal key context xs writes (Some storage) (Some journal)
 any_journal key context xs writes zs storage journal one within = record {
   storage_disk = storage;
   journal_disk = journal;
@@ -174,7 +178,7 @@ any_journal key context xs writes zs storage journal one within = record {
 
 -- The journal is certain and whole: whatever a crash leaves of the storage, its writes are made again.
 pub whole_journal : (key context xs : List ℕ) (writes : Writes) (js : List ℕ) (storage journal : Disk) → IsJournal key context writes js → IsWithin journal (certain js)
-    → ((ys : List ℕ) → Crashed storage ys → after_writes writes ys ≡ after_writes writes xs) → RecoversUnlessForged key context xs writes (Some storage) (Some journal)
+    → ((ys : List ℕ) → Crashed storage ys → after_writes writes ys ≡ after_writes writes xs) → RecoversUnlessOtherJournal key context xs writes (Some storage) (Some journal)
 whole_journal key context xs writes js storage journal whole within written = record {
   storage_disk = storage;
   journal_disk = journal;
@@ -185,11 +189,11 @@ whole_journal key context xs writes js storage journal whole within written = re
 }
 
 pub rest_recovers : (key context xs : List ℕ) (writes : Writes) (storage journal : Option Disk) (zs : List ℕ) → IsOneOf xs (after_writes writes xs) zs → IsAtRest storage journal zs
-    → RecoversUnlessForged key context xs writes storage journal
+    → RecoversUnlessOtherJournal key context xs writes storage journal
 rest_recovers key context xs writes storage journal zs one rest =
     rw (rest.storage_is, rest.journal_is) (any_journal key context xs writes zs (certain zs) (certain []) one (within_itself (certain zs)))
 
-pub at_rest_recovers : (key context xs : List ℕ) (writes : Writes) (storage journal : Option Disk) → IsAtRest storage journal xs → RecoversUnlessForged key context xs writes storage journal
+pub at_rest_recovers : (key context xs : List ℕ) (writes : Writes) (storage journal : Option Disk) → IsAtRest storage journal xs → RecoversUnlessOtherJournal key context xs writes storage journal
 at_rest_recovers key context xs writes storage journal rest = rest_recovers key context xs writes storage journal xs (inl refl) rest
 
 -- ---- what is known
@@ -205,19 +209,19 @@ known_other key context js (Some xs) not = record { whole = λ writes is. absurd
 
 -- ---- a crash
 
-pub gives_of : (key context xs : List ℕ) (writes : Writes) (storage journal : Disk) → RecoversUnlessForged key context xs writes (Some storage) (Some journal)
+pub gives_of : (key context xs : List ℕ) (writes : Writes) (storage journal : Disk) → RecoversUnlessOtherJournal key context xs writes (Some storage) (Some journal)
     → (ys js : List ℕ) → Crashed storage ys → Crashed journal js → IsNoOtherJournal key context writes js → GivesOneOf key context xs (after_writes writes xs) js ys
 gives_of key context xs writes storage journal recovers ys js p q no_other_journal =
     let s : storage ≡ recovers.storage_disk = (let is = recovers.storage_is in cc) in
     let j : journal ≡ recovers.journal_disk = (let is = recovers.journal_is in cc) in recovers.gives ys js (rw s at p) (rw j at q) no_other_journal
 
-pub safe_of : (key context xs : List ℕ) (writes : Writes) (storage journal : Disk) → RecoversUnlessForged key context xs writes (Some storage) (Some journal) → IsSafe key context writes storage journal
+pub safe_of : (key context xs : List ℕ) (writes : Writes) (storage journal : Disk) → RecoversUnlessOtherJournal key context xs writes (Some storage) (Some journal) → IsSafe key context writes storage journal
 safe_of key context xs writes storage journal recovers =
     let s : storage ≡ recovers.storage_disk = (let is = recovers.storage_is in cc) in
     let j : journal ≡ recovers.journal_disk = (let is = recovers.journal_is in cc) in rw (s, j) recovers.safe
 
-pub crashed_recovers : (key context xs : List ℕ) (writes : Writes) (storage journal : Disk) (ys js : List ℕ) → RecoversUnlessForged key context xs writes (Some storage) (Some journal)
-    → Crashed storage ys → Crashed journal js → RecoversUnlessForged key context xs writes (Some (certain ys)) (Some (certain js))
+pub crashed_recovers : (key context xs : List ℕ) (writes : Writes) (storage journal : Disk) (ys js : List ℕ) → RecoversUnlessOtherJournal key context xs writes (Some storage) (Some journal)
+    → Crashed storage ys → Crashed journal js → RecoversUnlessOtherJournal key context xs writes (Some (certain ys)) (Some (certain js))
 crashed_recovers key context xs writes storage journal ys js recovers p q = record {
   storage_disk = certain ys;
   journal_disk = certain js;

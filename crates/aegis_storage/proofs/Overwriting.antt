@@ -3,7 +3,7 @@ use Rattle.std.proofs.Common.{◌≡◌, ℕ, ◌+◌, ◌-◌, ◌<◌, ◌≤�
 use Rattle.std.proofs.lemmas.Grind.{common_steps, same_number_lists}
 use Rattle.aegis_base.proofs.ChunkFacts.{chunk-within, joined-more}
 use Rattle.std.proofs.lemmas.List.{get_or_past, places, with_items_is}
-use Rattle.aegis_storage.specs.Bytes.{overwritten, part_at, resized}
+use Rattle.aegis_storage.specs.Disk.{overwritten, part_at, resized}
 
 pub length-resized : (xs : List ℕ) (n : ℕ) → length (resized xs n) ≡ n
 length-resized xs n = grind (arith, common_steps)

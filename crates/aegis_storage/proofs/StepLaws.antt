@@ -1,9 +1,8 @@
 -- The laws of the steps, as `laws` states them.
 use Rattle.std.proofs.Common.{◌≡◌, ℕ, zero, suc, ◌+◌, ◌≤◌, ◌⊎◌, inl, inr, List, [], ◌∷◌, ◌-◌, Some, drop, length, refl, sym, ap, take, ◌∙◌, arith}
 use Rattle.std.proofs.lemmas.List.{length-take-le, take-append-drop}
-use Rattle.aegis_storage.specs.Bytes.{overwritten}
-use Rattle.aegis_storage.specs.Disk.{Crashed, Disk, IsWithin, SettlesTo, Size, Write, Writes, after, after_writes, certain, spoilt}
-use Rattle.aegis_storage.specs.Journal.{GivesOneOf, HasBeginning, IsAtRest, IsJournal, IsOneOf, IsSafe, KeepsBeginning, RecoversUnlessForged, RestsAtEither, entries}
+use Rattle.aegis_storage.specs.Disk.{Crashed, Disk, IsWithin, SettlesTo, Size, Write, Writes, after, after_writes, certain, overwritten, spoilt}
+use Rattle.aegis_storage.specs.Journal.{GivesOneOf, HasBeginning, IsAtRest, IsJournal, IsOneOf, IsSafe, KeepsBeginning, RecoversUnlessOtherJournal, RestsAtEither, entries}
 use Rattle.aegis_storage.specs.Steps.{AreRedone, Changes, Does, Held, Leaves, LeavesNoMore, Nothing, Recoverable, StaysCertain, StopsAt, Syncs, Taken, commit_steps, step_at, held, journal_effect, recovery_steps, storage_effect, writing_steps}
 use Rattle.aegis_storage.proofs.Disks.{certain_only, resized_none, settles_emptied, settles_only, settles_certain, spoilt_crashed, unmade, within_after, within_crashed, within_itself, within_settles}
 use Rattle.aegis_storage.proofs.Journals.{BeginsAs, again, any_journal, beginning_begins, beginning_stays, begins_keeps, certain_begins, emptied_begins, gives_of, length-framed, one_written, safe_of}
@@ -38,12 +37,12 @@ commit_making key context journal xs writes whole = record {
   within = unmade xs xs [] refl;
 }
 
-unwritten : (key context xs : List ℕ) (writes : Writes) (s j : Held) → s ≡ held xs → RecoversUnlessForged key context xs writes (Some s.disk) (Some j.disk)
+unwritten : (key context xs : List ℕ) (writes : Writes) (s j : Held) → s ≡ held xs → RecoversUnlessOtherJournal key context xs writes (Some s.disk) (Some j.disk)
 unwritten key context xs writes s j same = any_journal key context xs writes xs s.disk j.disk (inl refl) (rw same (within_itself (certain xs)))
 
 pub commit_recovers : (key context journal xs : List ℕ) (writes : Writes) (k : ℕ) (s j : Held) → IsJournal key context writes journal
     → StopsAt (storage_effect writes) (commit_steps (length writes)) k (held xs) s → StopsAt (journal_effect journal) (commit_steps (length writes)) k (held []) j
-    → RecoversUnlessForged key context xs writes (Some s.disk) (Some j.disk)
+    → RecoversUnlessOtherJournal key context xs writes (Some s.disk) (Some j.disk)
 commit_recovers key context journal xs writes zero s j whole a b = unwritten key context xs writes s j (a.leaves ∙ a.taken)
 commit_recovers key context journal xs writes (suc zero) s j whole a b = unwritten key context xs writes s j (a.leaves ∙ a.taken.more ∙ a.taken.does)
 commit_recovers key context journal xs writes (suc (suc zero)) s j whole a b = unwritten key context xs writes s j (a.leaves ∙ a.taken.more.more ∙ a.taken.more.does ∙ a.taken.does)
@@ -69,8 +68,8 @@ commit_rests key context journal xs writes s j whole t u =
 -- ---- a recovery
 
 -- a crash leaves no more, and what was certain stays so
-syncing_recovers : (key context xs : List ℕ) (writes : Writes) (s s' j j' : Disk) → RecoversUnlessForged key context xs writes (Some s) (Some j) → LeavesNoMore s' s × StaysCertain s s' → LeavesNoMore j' j × StaysCertain j j'
-    → RecoversUnlessForged key context xs writes (Some s') (Some j')
+syncing_recovers : (key context xs : List ℕ) (writes : Writes) (s s' j j' : Disk) → RecoversUnlessOtherJournal key context xs writes (Some s) (Some j) → LeavesNoMore s' s × StaysCertain s s' → LeavesNoMore j' j × StaysCertain j j'
+    → RecoversUnlessOtherJournal key context xs writes (Some s') (Some j')
 syncing_recovers key context xs writes s s' j j' recovers p q = record {
   storage_disk = s';
   journal_disk = j';
@@ -131,7 +130,7 @@ unwritten_stays (suc (suc (suc (suc k)))) zs s a s' synced taken leaves =
     rw (leaves, taken.more.more.more.more, taken.more.more.more.does, taken.more.more.does, taken.more.does) (synced taken.between taken.does)
 
 unwritten_recovers : (key context xs : List ℕ) (writes : Writes) (s j s' j' : Held) (k : ℕ) → Recoverable key context xs writes [] s j → StopsAt (storage_effect []) (recovery_steps 0) k s s' → StopsAt (journal_effect j.bytes) (recovery_steps 0) k j j'
-    → RecoversUnlessForged key context xs writes (Some s'.disk) (Some j'.disk)
+    → RecoversUnlessOtherJournal key context xs writes (Some s'.disk) (Some j'.disk)
 unwritten_recovers key context xs writes s j s' j' zero r a b =
     syncing_recovers key context xs writes s.disk s'.disk j.disk j'.disk r.recovers (rw a.taken at a.leaves) (as_it_was j.disk j'.disk (ap (λ (h : Held). h.disk) (b.leaves ∙ b.taken)))
 unwritten_recovers key context xs writes s j s' j' (suc k) r a b =
@@ -151,7 +150,7 @@ recovery_making key context xs writes s j a r whole synced = record { whole = wh
 
 whole_recovers : (key context xs : List ℕ) (write : ℕ × List ℕ) (writes : Writes) (s j s' j' : Held) (k : ℕ) → Recoverable key context xs (write ∷ writes) (write ∷ writes) s j → IsJournal key context (write ∷ writes) j.bytes
     → StopsAt (storage_effect (write ∷ writes)) (recovery_steps (length (write ∷ writes))) k s s' → StopsAt (journal_effect j.bytes) (recovery_steps (length (write ∷ writes))) k j j'
-    → RecoversUnlessForged key context xs (write ∷ writes) (Some s'.disk) (Some j'.disk)
+    → RecoversUnlessOtherJournal key context xs (write ∷ writes) (Some s'.disk) (Some j'.disk)
 whole_recovers key context xs write writes s j s' j' zero r whole a b =
     syncing_recovers key context xs (write ∷ writes) s.disk s'.disk j.disk j'.disk r.recovers (rw a.taken at a.leaves) (as_it_was j.disk j'.disk (ap (λ (h : Held). h.disk) (b.leaves ∙ b.taken)))
 whole_recovers key context xs write writes s j s' j' (suc zero) r whole a b =
@@ -173,11 +172,11 @@ the_writes key context xs writes found s j r = cases r.redone
     cases (inr none) = inr none.0
 
 pub recovery_recovers : (key context xs : List ℕ) (writes found : Writes) (s j s' j' : Held) (k : ℕ) → Recoverable key context xs writes found s j → StopsAt (storage_effect found) (recovery_steps (length found)) k s s'
-    → StopsAt (journal_effect j.bytes) (recovery_steps (length found)) k j j' → RecoversUnlessForged key context xs writes (Some s'.disk) (Some j'.disk)
+    → StopsAt (journal_effect j.bytes) (recovery_steps (length found)) k j j' → RecoversUnlessOtherJournal key context xs writes (Some s'.disk) (Some j'.disk)
 recovery_recovers key context xs writes [] s j s' j' k r a b = unwritten_recovers key context xs writes s j s' j' k r a b
 recovery_recovers key context xs writes (write ∷ found) s j s' j' k r a b = cases (the_writes key context xs writes (write ∷ found) s j r)
   where
-    cases : ((write ∷ found ≡ writes) × IsJournal key context writes j.bytes) ⊎ (write ∷ found ≡ []) → RecoversUnlessForged key context xs writes (Some s'.disk) (Some j'.disk)
+    cases : ((write ∷ found ≡ writes) × IsJournal key context writes j.bytes) ⊎ (write ∷ found ≡ []) → RecoversUnlessOtherJournal key context xs writes (Some s'.disk) (Some j'.disk)
     cases (inl same) = rw (← same.0) (whole_recovers key context xs write found s j s' j' k (rw (← same.0) at r) (rw (← same.0) at same.1) a b)
     cases (inr none) = absurd (let long = ap length none in omega (arith, long))
 

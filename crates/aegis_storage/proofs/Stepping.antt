@@ -4,10 +4,10 @@ use Rattle.std.proofs.lemmas.List.{drop_all, length-append, take_all}
 use Rattle.std.proofs.Math.Seq.{drop-cons, take-suc}
 use Rattle.std.specs.Io.KnownBytes.{Keeps}
 use Rattle.std.specs.List.{range_with_len}
-use Rattle.aegis_storage.specs.Bytes.{IfKnown, WritesAt}
-use Rattle.aegis_storage.specs.Disk.{Adds, Disk, IsWithin, MakesSynced, Spoils, Write, Writes, WritesAll, after, after_writes, changed, spoilt}
+use Rattle.aegis_storage.specs.Disk.{Adds, Disk, IfKnown, IsWithin, MakesSynced, Spoils, Write, Writes, WritesAll, WritesAt, after, after_writes, changed, spoilt}
 use Rattle.aegis_storage.specs.Journal.{AreWithin, RecoversKnown, entries, entry}
-use Rattle.aegis_storage.specs.Steps.{AreRedone, Changes, Does, Effect, Fails, Has, Held, IsNext, Knows, Leaves, LeavesOne, Nothing, Replaces, StopsAt, Syncs, Taken, held, journal_effect, made_with, step_at, steps_of, storage_effect, write_of, writing_steps}
+use Rattle.aegis_storage.specs.Steps.{AreRedone, Changes, Does, Effect, Held, Leaves, Nothing, Replaces, StopsAt, Syncs, Taken, held, journal_effect, step_at, steps_of, storage_effect, write_of, writing_steps}
+use Rattle.aegis_storage.specs.Private.{Fails, Has, IsNext, Knows, LeavesOne, made_with}
 use Rattle.aegis_storage.specs.declared.steps.Order.{Order}
 use Rattle.aegis_storage.specs.declared.steps.Order.TheVariants.{Commit, Recovery}
 use Rattle.aegis_storage.specs.declared.steps.Step.{Step}

@@ -4,7 +4,7 @@ use Rattle.std.proofs.lemmas.List.{map-append, take-append-drop, take_all}
 use Rattle.std.proofs.Math.Seq.{take-suc}
 use Rattle.std.specs.List.{range_with_len}
 use Rattle.aegis_storage.specs.Disk.{AreParts, Change, Crashed, Disk, IsWithin, Size, Write, Writes, after, after_writes, certain, changed, changes, spoilt}
-use Rattle.aegis_storage.specs.Journal.{IsJournal, RecoversUnlessForged}
+use Rattle.aegis_storage.specs.Journal.{IsJournal, RecoversUnlessOtherJournal}
 use Rattle.aegis_storage.specs.Steps.{Changes, Does, Effect, Held, Leaves, LeavesNoMore, Nothing, Replaces, StopsAt, Syncs, Taken, held, journal_effect, step_at, storage_effect, write_of, writing_steps}
 use Rattle.aegis_storage.specs.declared.steps.Step.{Step}
 use Rattle.aegis_storage.specs.declared.steps.Step.TheVariants.{Done, EmptyJournal, MakeWrite, ReplaceJournal, SyncJournal, SyncStorage, WriteBeginning, WriteRest}
@@ -137,7 +137,7 @@ some_written key context xs writes js disk s m making ys crashed =
 
 -- while they are made, and until they are synced
 making_stops : (key context xs : List ℕ) (writes : Writes) (js : List ℕ) (disk : Disk) (s s' j' : Held) (m : ℕ) → Making key context xs writes js disk s
-    → LeavesNoMore s'.disk (after (spoilt disk) (changes (take m writes))) → j' ≡ held js → RecoversUnlessForged key context xs writes (Some s'.disk) (Some j'.disk)
+    → LeavesNoMore s'.disk (after (spoilt disk) (changes (take m writes))) → j' ≡ held js → RecoversUnlessOtherJournal key context xs writes (Some s'.disk) (Some j'.disk)
 making_stops key context xs writes js disk s s' j' m making leaves same =
     whole_journal key context xs writes js s'.disk j'.disk making.whole (rw same (within_itself (certain js)))
     (λ ys crashed. some_written key context xs writes js disk s m making ys (leaves ys crashed))
@@ -164,7 +164,7 @@ ended_storage writes (suc (suc (suc i))) zs a s s' synced taken leaves = rw (lea
 -- From the first write on, with a journal that is certain.
 pub writing_stops : (key context xs : List ℕ) (writes : Writes) (js : List ℕ) (disk : Disk) (s s' j' : Held) (m : ℕ) → Making key context xs writes js disk s
     → StopsAt (storage_effect writes) (writing_steps (length writes)) m s s' → StopsAt (journal_effect js) (writing_steps (length writes)) m (held js) j'
-    → RecoversUnlessForged key context xs writes (Some s'.disk) (Some j'.disk)
+    → RecoversUnlessOtherJournal key context xs writes (Some s'.disk) (Some j'.disk)
 writing_stops key context xs writes js disk s s' j' m making storage journal = cases (far (suc m) (length writes))
   where
     n : ℕ
@@ -174,7 +174,7 @@ writing_stops key context xs writes js disk s s' j' m making storage journal = c
     untouched : (i : ℕ) → m ≤ n → take m (writing_steps n) ≡ makes m → Leaves Nothing journal.between j' → j' ≡ held js
     untouched i low steps leaves = leaves ∙ journal_kept js (range_with_len 0 m) (held js) journal.between (rw steps at journal.taken)
 
-    before : m < n → RecoversUnlessForged key context xs writes (Some s'.disk) (Some j'.disk)
+    before : m < n → RecoversUnlessOtherJournal key context xs writes (Some s'.disk) (Some j'.disk)
     before low =
         let steps = take_making n m (omega (arith, low)) in
         let step = step_making n m low in
@@ -185,7 +185,7 @@ writing_stops key context xs writes js disk s s' j' m making storage journal = c
         ((rw step at storage.leaves) ys crashed))
         (untouched m (omega (arith, low)) steps (rw step at journal.leaves))
 
-    syncing : m ≡ n → RecoversUnlessForged key context xs writes (Some s'.disk) (Some j'.disk)
+    syncing : m ≡ n → RecoversUnlessOtherJournal key context xs writes (Some s'.disk) (Some j'.disk)
     syncing is =
         let steps = take_making n m (omega (arith, is)) in
         let step : step_at (writing_steps n) m ≡ SyncStorage = step_ended n m (omega (arith, is)) ∙ ap (step_at ends) (let none : m - n ≡ 0 = omega (arith, is) in none) in
@@ -194,7 +194,7 @@ writing_stops key context xs writes js disk s s' j' m making storage journal = c
         (λ ys crashed. within_crashed storage.between.disk (after (spoilt disk) (changes (take m writes))) made ys ((rw step at storage.leaves).0 ys crashed))
         (untouched m (omega (arith, is)) steps (rw step at journal.leaves))
 
-    ended : (i : ℕ) → m ≡ n + suc i → RecoversUnlessForged key context xs writes (Some s'.disk) (Some j'.disk)
+    ended : (i : ℕ) → m ≡ n + suc i → RecoversUnlessOtherJournal key context xs writes (Some s'.disk) (Some j'.disk)
     ended i is =
         let steps : take m (writing_steps n) ≡ makes n ++ take (suc i) ends = ap (λ (k : ℕ). take k (writing_steps n)) is ∙ take_ended n (suc i) in
         let step : step_at (writing_steps n) m ≡ step_at ends (suc i) = step_ended n m (omega (arith, is)) ∙ ap (step_at ends) (let rest : m - n ≡ suc i = omega (arith, is) in rest) in
@@ -203,11 +203,11 @@ writing_stops key context xs writes js disk s s' j' m making storage journal = c
         let is_certain = ended_storage writes i (after_writes writes xs) both.between storage.between s' (λ b synced. made_certain key context xs writes js disk s both.between b making made synced) both.behind (rw step at storage.leaves) in
         any_journal key context xs writes (after_writes writes xs) s'.disk j'.disk (inr refl) (rw is_certain (within_itself (certain (after_writes writes xs))))
 
-    later : (i : ℕ) → suc m ≡ n + suc i → RecoversUnlessForged key context xs writes (Some s'.disk) (Some j'.disk)
+    later : (i : ℕ) → suc m ≡ n + suc i → RecoversUnlessOtherJournal key context xs writes (Some s'.disk) (Some j'.disk)
     later zero is = syncing (omega (arith, is))
     later (suc i) is = ended i (omega (arith, is))
 
-    cases : (suc m ≤ n) ⊎ ((i : ℕ) × (suc m ≡ n + suc i)) → RecoversUnlessForged key context xs writes (Some s'.disk) (Some j'.disk)
+    cases : (suc m ≤ n) ⊎ ((i : ℕ) × (suc m ≡ n + suc i)) → RecoversUnlessOtherJournal key context xs writes (Some s'.disk) (Some j'.disk)
     cases (inl low) = before (omega (arith, low))
     cases (inr more) = later more.0 more.1
 

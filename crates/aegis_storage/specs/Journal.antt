@@ -1,11 +1,13 @@
--- The journal of writes, and what recovery makes of a storage by it.
-use Rattle.std.specs.Prelude.{◌≡◌, ℕ, ◌+◌, ◌-◌, ◌^◌, ◌≤◌, ◌⊎◌, List, [], ◌++◌, IfSome, Option, Some, length, take}
+-- The journal of writes, what recovery makes of a storage by it, and the errors of both.
+use Rattle.std.specs.Prelude.{◌≡◌, ℕ, ◌+◌, ◌-◌, ◌^◌, ◌≤◌, ◌⊎◌, List, [], ◌++◌, IfSome, Option, Some, length, take, ◌<◌, None, Result, OnOk}
 use Rattle.std.specs.Int.{to_le_bytes, w64}
 use Rattle.std.specs.List.{AllByRecursion, flat_map}
 use Rattle.aegis_base.specs.Mac.{mac}
-use Rattle.aegis_base.specs.Variant.{Aegis128L}
-use Rattle.aegis_storage.specs.Bytes.{IfKnown}
-use Rattle.aegis_storage.specs.Disk.{CrashLeaves, Crashed, Disk, IsWithin, Writes, certain, after_writes}
+use Rattle.aegis_base.specs.Variant.{Aegis128L, long_tag_bytes}
+use Rattle.aegis_storage.specs.Disk.{CrashLeaves, Crashed, Disk, IfKnown, IsWithin, Writes, after_writes, certain}
+use Rattle.std.specs.IoError.{error_kind}
+use Rattle.std.specs.declared.io.Error.{Error}
+use Rattle.std.specs.declared.io.ErrorKind.TheVariants.{AlreadyExists, InvalidData, InvalidInput, OutOfMemory, UnexpectedEof}
 
 -- the last byte of a storage lies below this place, as in a file of Linux
 abbrev pub max_storage_bytes : ℕ
@@ -31,19 +33,25 @@ AreWithin writes = AllByRecursion (λ write. write.0 + length write.1 ≤ max_st
 abbrev pub authenticated : (context content : List ℕ) → List ℕ
 authenticated context content = to_le_bytes w64 (length context) ++ (context ++ content)
 
--- a journal: a beginning, a nonce, the writes, and the MAC
+-- a journal: a beginning, a nonce, the writes, and the MAC; how many bytes the first has, and the first two
+abbrev pub journal_beginning_bytes : ℕ
+journal_beginning_bytes = 512
+
+abbrev pub journal_start_bytes : ℕ
+journal_start_bytes = 528
+
 abbrev pub framed : (key beginning nonce context content : List ℕ) → List ℕ
-framed key beginning nonce context content = beginning ++ (nonce ++ (content ++ mac Aegis128L 32 key nonce (authenticated context content)))
+framed key beginning nonce context content = beginning ++ (nonce ++ (content ++ mac Aegis128L long_tag_bytes key nonce (authenticated context content)))
 
 -- how many bytes the journal of the writes has
 abbrev pub journal_length : Writes → ℕ
-journal_length writes = 512 + (16 + (length (entries writes) + 32))
+journal_length writes = journal_beginning_bytes + (16 + (length (entries writes) + long_tag_bytes))
 
 -- The bytes are a beginning, a nonce, this content, and its MAC under the nonce, the key and the context.
 pub record IsFramed (key context content bytes : List ℕ) : Type 0 where
   pub beginning : List ℕ
   pub nonce : List ℕ
-  pub beginning_size : length beginning ≡ 512
+  pub beginning_size : length beginning ≡ journal_beginning_bytes
   pub nonce_size : length nonce ≡ 16
   pub fits : length bytes ≤ max_journal_bytes
   pub are : bytes ≡ framed key beginning nonce context content
@@ -52,10 +60,6 @@ pub record IsFramed (key context content bytes : List ℕ) : Type 0 where
 pub record IsJournal (key context : List ℕ) (writes : Writes) (bytes : List ℕ) : Type 0 where
   pub within : AreWithin writes
   pub framed : IsFramed key context (entries writes) bytes
-
--- The bytes are a journal of the writes that this content is of.
-abbrev pub IsContent : (key context bytes content : List ℕ) → Type 0
-IsContent key context bytes content = (writes : Writes) × IsJournal key context writes bytes × (content ≡ entries writes)
 
 -- Recovery of a storage that holds `old`, by what the journal holds, gives bytes of which P holds.
 pub record Gives (key context journal old : List ℕ) (P : List ℕ → Type 0) : Type 0 where
@@ -76,8 +80,7 @@ abbrev pub GivesOneOf : (key context a b journal old : List ℕ) → Type 0
 GivesOneOf key context a b journal old = Gives key context journal old (IsOneOf a b)
 
 -- The premise on what a crash leaves: if the bytes are a whole journal under the key and the context, then of these writes.
--- It excludes forgeries, which nobody can find without the key but by chance, and older whole journals, which a disk may
--- still have somewhere.
+-- It excludes forgeries, which are found without the key by chance only, and older whole journals, which a disk may have.
 abbrev pub IsNoOtherJournal : (key context : List ℕ) → Writes → List ℕ → Type 0
 IsNoOtherJournal key context writes bytes = (found : Writes) → IsJournal key context found bytes → found ≡ writes
 
@@ -88,7 +91,7 @@ IsSafe key context writes storage journal =
 
 -- Whatever a crash now leaves of the storage and of the journal, unless it leaves another whole journal, recovery gives xs,
 -- or xs with all the writes over it. Without a crash it does so too, whichever syncs have failed, since one of the two is certain.
-pub record RecoversUnlessForged (key context xs : List ℕ) (writes : Writes) (storage journal : Option Disk) : Type 0 where
+pub record RecoversUnlessOtherJournal (key context xs : List ℕ) (writes : Writes) (storage journal : Option Disk) : Type 0 where
   pub storage_disk : Disk
   pub journal_disk : Disk
   pub storage_is : storage ≡ Some storage_disk
@@ -99,7 +102,7 @@ pub record RecoversUnlessForged (key context xs : List ℕ) (writes : Writes) (s
 
 -- the bytes are at most 512, as many as the beginning of a journal, or begin with this beginning
 abbrev pub HasBeginning : (beginning bytes : List ℕ) → Type 0
-HasBeginning beginning bytes = (length bytes ≤ 512) ⊎ (take 512 bytes ≡ beginning)
+HasBeginning beginning bytes = (length bytes ≤ journal_beginning_bytes) ⊎ (take journal_beginning_bytes bytes ≡ beginning)
 
 -- Whatever a crash now leaves of the journal has at most 512 bytes, or begins with this beginning. So the file of a
 -- longer journal is known by its beginning, also if the journal is torn.
@@ -116,3 +119,40 @@ pub record RestsAtEither (storage journal : Option Disk) (xs : List ℕ) (writes
   pub bytes : List ℕ
   pub one : IsOneOf xs (after_writes writes xs) bytes
   pub rests : IsAtRest storage journal bytes
+
+-- ---- which error a call returns
+
+-- memory ran out
+abbrev pub IsOutOfMemory : Error → Type 0
+IsOutOfMemory e = error_kind e ≡ OutOfMemory
+
+-- n bytes were to be read from place `at` on, and the storage, where its bytes are known, has fewer
+abbrev pub IsPastEnd : Option (List ℕ) → (at n : ℕ) → Error → Type 0
+IsPastEnd bytes at n e = (error_kind e ≡ UnexpectedEof) × IfSome bytes (λ xs. length xs < at + n)
+
+-- the journal of the writes would be too long
+abbrev pub IsTooLong : Writes → Error → Type 0
+IsTooLong writes e = (error_kind e ≡ InvalidInput) × (max_journal_bytes < journal_length writes)
+
+-- Of a commit: a call on one of the two returned it, memory ran out, the journal had bytes, or that of the writes is too long.
+abbrev pub IsCommitError : (of_storage of_journal : Error → Type 0) → (journal : Option (List ℕ)) → Writes → Error → Type 0
+IsCommitError of_storage of_journal journal writes e =
+    of_storage e ⊎ (of_journal e ⊎ (IsOutOfMemory e ⊎ (((error_kind e ≡ AlreadyExists) × IfSome journal (λ js. 0 < length js)) ⊎ IsTooLong writes e)))
+
+-- What a commit of n writes finds before it writes: by its result, the bytes of the journal, and both before and after it.
+pub record Checks {Y S J : Type 0} (result : Result Y Error) (bytes : Option (List ℕ)) (n : ℕ) (writes : Writes) (old new : S) (journal journal' : J) : Type 0 where
+  -- with `Ok` the journal was empty, unless there was nothing to write
+  pub empty : OnOk result (0 < n → IfSome bytes (λ js. length js ≡ 0))
+  -- if it was not, or would be too long, both are as they were
+  pub occupied : IfSome bytes (λ js. 0 < length js → (new ≡ old) × (journal' ≡ journal))
+  pub too_long : max_journal_bytes < journal_length writes → (new ≡ old) × (journal' ≡ journal)
+
+-- Of reading all bytes: a call returned it, memory ran out, there are too many, or they ended early, which known bytes do not.
+abbrev pub IsReadAllError : (of_storage : Error → Type 0) → Option (List ℕ) → Error → Type 0
+IsReadAllError of_storage bytes e =
+    of_storage e ⊎ (IsOutOfMemory e ⊎ (((error_kind e ≡ InvalidData) × IfSome bytes (λ xs. max_storage_bytes < length xs))
+    ⊎ ((error_kind e ≡ UnexpectedEof) × (bytes ≡ None))))
+
+-- Of a recovery: a call on the storage returned it, or reading the journal or another call on it did.
+abbrev pub IsRecoverError : (of_storage of_journal : Error → Type 0) → (journal : Option (List ℕ)) → Error → Type 0
+IsRecoverError of_storage of_journal journal e = of_storage e ⊎ IsReadAllError of_journal journal e

@@ -1,5 +1,4 @@
-pub mod Bytes
 pub mod Disk
-pub mod Errors
 pub mod Journal
+pub mod Private
 pub mod Steps

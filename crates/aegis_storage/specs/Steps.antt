@@ -1,10 +1,8 @@
 -- The order of the calls of a commit and of a recovery, and what the calls do to a storage and to its journal.
-use Rattle.std.specs.Prelude.{◌≡◌, ℕ, zero, suc, ◌<◌, ⊤, ◌⊎◌, List, [], ◌∷◌, ◌++◌, drop, get_or, map, take, Option, Some}
-use Rattle.std.specs.Io.KnownBytes.{Keeps}
+use Rattle.std.specs.Prelude.{◌≡◌, ℕ, zero, suc, ◌⊎◌, List, [], ◌∷◌, ◌++◌, drop, get_or, map, take, Some, Option, length}
 use Rattle.std.specs.List.{range_with_len}
-use Rattle.aegis_storage.specs.Bytes.{IfKnown}
-use Rattle.aegis_storage.specs.Disk.{Adds, Change, Crashed, Disk, IsSynced, IsWithin, MakesCertain, MakesSynced, Size, Spoils, Write, Writes, after, certain, changed}
-use Rattle.aegis_storage.specs.Journal.{IsJournal, IsNoOtherJournal, RecoversUnlessForged}
+use Rattle.aegis_storage.specs.Disk.{Change, Crashed, Disk, IsWithin, MakesSynced, Size, Write, Writes, after, certain, changed}
+use Rattle.aegis_storage.specs.Journal.{IsJournal, IsNoOtherJournal, RecoversUnlessOtherJournal, journal_beginning_bytes}
 use Rattle.aegis_storage.specs.declared.steps.Order.{Order}
 use Rattle.aegis_storage.specs.declared.steps.Order.TheVariants.{Commit, Recovery}
 use Rattle.aegis_storage.specs.declared.steps.Step.{Step}
@@ -44,14 +42,12 @@ pub data Effect : Type 0 where
 
 -- to the journal, which is to have these bytes
 abbrev pub journal_effect : (journal : List ℕ) → Step → Effect
-journal_effect journal WriteBeginning = Changes (Write 0 (take 512 journal))
-journal_effect journal WriteRest = Changes (Write 512 (drop 512 journal))
+journal_effect journal WriteBeginning = Changes (Write 0 (take journal_beginning_bytes journal))
+journal_effect journal WriteRest = Changes (Write journal_beginning_bytes (drop journal_beginning_bytes journal))
 journal_effect journal SyncJournal = Syncs
 journal_effect journal ReplaceJournal = Replaces
-journal_effect journal (MakeWrite number) = Nothing
-journal_effect journal SyncStorage = Nothing
 journal_effect journal EmptyJournal = Changes (Size 0)
-journal_effect journal Done = Nothing
+journal_effect journal _ = Nothing
 
 -- the write of a number, the first being 0
 abbrev pub write_of : Writes → ℕ → Change
@@ -59,14 +55,9 @@ write_of writes number = Write (get_or writes number (0, [])).0 (get_or writes n
 
 -- to the storage, by the writes of the journal
 abbrev pub storage_effect : Writes → Step → Effect
-storage_effect writes WriteBeginning = Nothing
-storage_effect writes WriteRest = Nothing
-storage_effect writes SyncJournal = Nothing
-storage_effect writes ReplaceJournal = Nothing
 storage_effect writes (MakeWrite number) = Changes (write_of writes number)
 storage_effect writes SyncStorage = Syncs
-storage_effect writes EmptyJournal = Nothing
-storage_effect writes Done = Nothing
+storage_effect writes _ = Nothing
 
 -- what can be read of a storage, and what a crash may leave of it
 pub record Held : Type 0 where
@@ -117,6 +108,17 @@ pub record StopsAt (effect : Step → Effect) (steps : List Step) (k : ℕ) (old
   pub taken : Taken effect (take k steps) old between
   pub leaves : Leaves (effect (step_at steps k)) between new
 
+-- A commit of the writes by this journal, which began with xs for certain and with no journal, stopped at one of its steps.
+pub record StopsInCommit (key context journal xs : List ℕ) (writes : Writes) (storage' journal' : Option Disk) : Type 0 where
+  pub step : ℕ
+  pub s : Held
+  pub j : Held
+  pub whole : IsJournal key context writes journal
+  pub storage_is : storage' ≡ Some s.disk
+  pub journal_is : journal' ≡ Some j.disk
+  pub storage_stops : StopsAt (storage_effect writes) (commit_steps (length writes)) step (held xs) s
+  pub journal_stops : StopsAt (journal_effect journal) (commit_steps (length writes)) step (held []) j
+
 -- the writes that recovery makes again: those of a whole journal, and none for any other
 abbrev pub AreRedone : (key context journal : List ℕ) → Writes → Type 0
 AreRedone key context journal writes =
@@ -126,56 +128,6 @@ AreRedone key context journal writes =
 pub record Recoverable (key context xs : List ℕ) (writes found : Writes) (s j : Held) : Type 0 where
   pub storage : Crashed s.disk s.bytes
   pub journal : Crashed j.disk j.bytes
-  pub recovers : RecoversUnlessForged key context xs writes (Some s.disk) (Some j.disk)
+  pub recovers : RecoversUnlessOtherJournal key context xs writes (Some s.disk) (Some j.disk)
   pub no_other_journal : IsNoOtherJournal key context writes j.bytes
   pub redone : AreRedone key context j.bytes found
-
--- ---- storages whose bytes and whose disks may be known
-
--- what a call that has the effect does if it returns without an error
-abbrev pub Has : Effect → (bytes bytes' : Option (List ℕ)) → (disk disk' : Option Disk) → Type 0
-Has Nothing bytes bytes' disk disk' = (bytes' ≡ bytes) × (disk' ≡ disk)
-Has (Changes change) bytes bytes' disk disk' = IfKnown (λ xs ys. ys ≡ changed change xs) bytes bytes' × Adds disk disk' (change ∷ [])
-Has Syncs bytes bytes' disk disk' = Keeps bytes bytes' × IsSynced disk disk'
-Has Replaces bytes bytes' disk disk' = Keeps bytes bytes' × MakesCertain bytes disk disk'
-
--- and if it returns an error
-abbrev pub Fails : Effect → (disk disk' : Option Disk) → Type 0
-Fails Nothing disk disk' = disk' ≡ disk
-Fails (Changes change) disk disk' = Spoils disk disk' (change ∷ [])
-Fails Syncs disk disk' = Spoils disk disk' []
-Fails Replaces disk disk' = Spoils disk disk' []
-
--- the bytes and the disk are known
-abbrev pub Knows : Held → (bytes : Option (List ℕ)) → (disk : Option Disk) → Type 0
-Knows h bytes disk = (bytes ≡ Some h.bytes) × (disk ≡ Some h.disk)
-
--- the disk is known, and is that of something of which P holds
-pub record LeavesOne (P : Held → Type 0) (disk : Option Disk) : Type 0 where
-  pub new : Held
-  pub is : disk ≡ Some new.disk
-  pub so : P new
-
--- ---- the writes that are left
-
--- a step that makes a write makes the one after `made` writes, of n
-abbrev pub IsNext : Step → (made n : ℕ) → Type 0
-IsNext WriteBeginning made n = ⊤
-IsNext WriteRest made n = ⊤
-IsNext SyncJournal made n = ⊤
-IsNext ReplaceJournal made n = ⊤
-IsNext (MakeWrite number) made n = (number ≡ made) × (made < n)
-IsNext SyncStorage made n = ⊤
-IsNext EmptyJournal made n = ⊤
-IsNext Done made n = ⊤
-
--- how many writes are made after a step, of which `made` were made before it
-abbrev pub made_with : Step → (made : ℕ) → ℕ
-made_with WriteBeginning made = made
-made_with WriteRest made = made
-made_with SyncJournal made = made
-made_with ReplaceJournal made = made
-made_with (MakeWrite number) made = suc made
-made_with SyncStorage made = made
-made_with EmptyJournal made = made
-made_with Done made = made

@@ -1,9 +1,9 @@
 //! Writes that are all there after a crash, or none of them.
 
-ghost use Rattle.std.specs.Prelude.{◌≡◌, ◌<◌, ◌≤◌, [], IfErr, IfSome, IsOk, List, OnOk, Some, length, ℕ};
+ghost use Rattle.std.specs.Prelude.{◌≡◌, ◌<◌, ◌≤◌, ◌⊎◌, [], IfErr, IfSome, IsOk, List, OnOk, Some, length, ℕ};
 ghost use Rattle.aegis_storage.specs.Disk.{WritesAll, after_writes, certain, writes_of};
-ghost use Rattle.aegis_storage.specs.Errors.{IsCommitError};
-ghost use Rattle.aegis_storage.specs.Journal.{IsAtRest, KeepsBeginning, RecoversUnlessForged};
+ghost use Rattle.aegis_storage.specs.Journal.{Checks, IsAtRest, IsCommitError, KeepsBeginning, RecoversUnlessOtherJournal, entries, framed};
+ghost use Rattle.aegis_storage.specs.Steps.{StopsInCommit};
 
 use crate::driver::take_steps;
 use crate::journal::{BEGINNING_BYTES, NONCE_BYTES, journal_bytes, writes_part};
@@ -27,8 +27,9 @@ use std::io::ErrorKind;
 /// than [`BEGINNING_BYTES`] begins with it.
 ///
 /// After an error, call `recover` before anything else. The error is that of a call, or `AlreadyExists` if the journal
-/// is not empty, which changes nothing, or `InvalidInput` if the journal would have more than
-/// [`crate::MAX_JOURNAL_BYTES`], or `OutOfMemory`. Memory is taken for the journal, and for a copy while it grows.
+/// is not empty, or `InvalidInput` if the journal would have more than [`crate::MAX_JOURNAL_BYTES`], both of which change
+/// nothing, or `OutOfMemory`. Memory is taken for the journal, and for a copy while it grows. Whatever the result is, the
+/// storage and the journal are as they were, or as the steps leave them up to one of them.
 #[tactic(auto, using(crate::proofs::Journals::empty_beginning, crate::proofs::Journals::at_rest_recovers))]
 pub fn commit<S: Storage, J: Storage, A: Allocator + Copy>(
     alloc: A,
@@ -43,14 +44,17 @@ pub fn commit<S: Storage, J: Storage, A: Allocator + Copy>(
     requires { length context.now ≤ MAX_CONTEXT_BYTES }
     ensures written { OnOk result
         (WritesAll (S.bytes storage.old) (S.bytes storage.new) (writes_of writes.now)) }
-    ensures empty { OnOk result (0 < length writes.now
-        → IfSome (J.bytes journal.old) (λ js. length js ≡ 0)) }
     ensures nothing { length writes.now ≡ 0
         → IsOk result × (storage.new ≡ storage.old) × (journal.new ≡ journal.old) }
-    ensures occupied { IfSome (J.bytes journal.old) (λ js. 0 < length js
-        → (storage.new ≡ storage.old) × (journal.new ≡ journal.old)) }
+    ensures checked { Checks result (J.bytes journal.old) (length writes.now)
+        (writes_of writes.now) storage.old storage.new journal.old journal.new }
+    ensures stopped { (xs : List ℕ) → IsAtRest (S.disk storage.old) (J.disk journal.old) xs
+        → ((storage.new ≡ storage.old) × (journal.new ≡ journal.old))
+        ⊎ StopsInCommit key.now context.now
+        (framed key.now beginning.now nonce.now context.now (entries (writes_of writes.now)))
+        xs (writes_of writes.now) (S.disk storage.new) (J.disk journal.new) }
     ensures recovers { (xs : List ℕ) → IsAtRest (S.disk storage.old) (J.disk journal.old) xs
-        → RecoversUnlessForged key.now context.now xs (writes_of writes.now)
+        → RecoversUnlessOtherJournal key.now context.now xs (writes_of writes.now)
         (S.disk storage.new) (J.disk journal.new) }
     ensures beginning { J.disk journal.old ≡ Some (certain [])
         → KeepsBeginning beginning.now (J.disk journal.new) }

@@ -2,7 +2,7 @@
 
 ghost use Rattle.std.specs.Prelude.{◌≡◌, ◌+◌, ◌-◌, ◌≤◌, ◌++◌, length, replicate, take};
 ghost use Rattle.aegis_base.specs.Chunks.{joined};
-ghost use Rattle.aegis_storage.specs.Bytes.{overwritten};
+ghost use Rattle.aegis_storage.specs.Disk.{overwritten};
 
 /// Writes `part` over the bytes from `at` on.
 pub fn put(bytes: &mut [u8], at: usize, part: &[u8])

@@ -1,7 +1,7 @@
 //! Reading a storage.
 
 ghost use Rattle.std.specs.Prelude.{◌≡◌, IfErr, IfOk, IfSome};
-ghost use Rattle.aegis_storage.specs.Errors.{IsReadAllError};
+ghost use Rattle.aegis_storage.specs.Journal.{IsReadAllError};
 
 use crate::store::{MAX_STORAGE_BYTES, Storage};
 use std::alloc::Allocator;

@@ -3,7 +3,8 @@
 ghost use Rattle.std.specs.Prelude.{◌≡◌, ◌≤◌, ◌⊎◌, drop, IfErr, IfOk, IfSome, List, OnErr, OnOk, length, ℕ};
 ghost use Rattle.aegis_storage.specs.Disk.{Writes, WritesAll};
 ghost use Rattle.aegis_storage.specs.Journal.{AreWithin, entries};
-ghost use Rattle.aegis_storage.specs.Steps.{Fails, Has, Held, IsNext, Knows, LeavesOne, StopsAt, Taken, journal_effect, made_with, steps_of, storage_effect};
+ghost use Rattle.aegis_storage.specs.Private.{Fails, Has, IsNext, Knows, LeavesOne, made_with};
+ghost use Rattle.aegis_storage.specs.Steps.{Held, StopsAt, Taken, journal_effect, steps_of, storage_effect};
 
 use crate::journal::{BEGINNING_BYTES, first_write};
 use crate::steps::{Order, Step, step_of};

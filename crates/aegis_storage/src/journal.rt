@@ -6,8 +6,8 @@ ghost use Rattle.std.specs.Int.{to_le_bytes, w64};
 ghost use Rattle.aegis_base.specs.Context.{Stands};
 ghost use Rattle.aegis_base.specs.Variant.{Aegis128L};
 ghost use Rattle.aegis_storage.specs.Disk.{Writes, writes_of};
-ghost use Rattle.aegis_storage.specs.Errors.{IsOutOfMemory, IsTooLong};
-ghost use Rattle.aegis_storage.specs.Journal.{AreWithin, IsContent, IsFramed, IsJournal, authenticated, entries, entry, framed};
+ghost use Rattle.aegis_storage.specs.Journal.{AreWithin, IsFramed, IsJournal, IsOutOfMemory, IsTooLong, authenticated, entries, entry, framed};
+ghost use Rattle.aegis_storage.specs.Private.{IsContent};
 
 use crate::pending::PendingWrite;
 use crate::store::MAX_STORAGE_BYTES;

@@ -3,7 +3,7 @@
 
 ghost use Rattle.std.specs.Prelude.{◌≡◌, [], List, Option, Some, length, take, ℕ};
 ghost use Rattle.aegis_storage.specs.Disk.{AreParts, Change, Crashed, Disk, Writes, applied, certain, changes, after_writes};
-ghost use Rattle.aegis_storage.specs.Journal.{IsAtRest, IsJournal, KeepsBeginning, RecoversUnlessForged, RestsAtEither};
+ghost use Rattle.aegis_storage.specs.Journal.{IsAtRest, IsJournal, KeepsBeginning, RecoversUnlessOtherJournal, RestsAtEither};
 ghost use Rattle.aegis_storage.specs.Steps.{Held, Recoverable, StopsAt, Taken, commit_steps, held, journal_effect, recovery_steps, storage_effect};
 
 /// After any parts of writes, in any order, all of the writes give what they give without these.
@@ -24,7 +24,7 @@ pub fn certain_bytes()
 #[tactic(auto, using(crate::proofs::Journals::at_rest_recovers))]
 pub fn recovers_at_rest()
     ensures { (key context xs : List ℕ) (writes : Writes) (storage journal : Option Disk)
-        → IsAtRest storage journal xs → RecoversUnlessForged key context xs writes storage journal }
+        → IsAtRest storage journal xs → RecoversUnlessOtherJournal key context xs writes storage journal }
 {}
 
 /// What keeps its beginning before a crash does so after it.
@@ -40,9 +40,9 @@ pub fn beginning_after_a_crash()
 pub fn recovers_after_a_crash()
     ensures { (key context xs : List ℕ) (writes : Writes)
         (storage journal : Disk) (ys js : List ℕ)
-        → RecoversUnlessForged key context xs writes (Some storage) (Some journal)
+        → RecoversUnlessOtherJournal key context xs writes (Some storage) (Some journal)
         → Crashed storage ys → Crashed journal js
-        → RecoversUnlessForged key context xs writes (Some (certain ys)) (Some (certain js)) }
+        → RecoversUnlessOtherJournal key context xs writes (Some (certain ys)) (Some (certain js)) }
 {}
 
 /// Wherever the steps of a commit stop, because the program or the system does or because a call fails: recovery gives
@@ -52,7 +52,7 @@ pub fn commit_recovers_at_any_step()
         → IsJournal key context writes journal
         → StopsAt (storage_effect writes) (commit_steps (length writes)) k (held xs) s
         → StopsAt (journal_effect journal) (commit_steps (length writes)) k (held []) j
-        → RecoversUnlessForged key context xs writes (Some s.disk) (Some j.disk) }
+        → RecoversUnlessOtherJournal key context xs writes (Some s.disk) (Some j.disk) }
 {}
 
 /// After all steps of a commit the storage has the writes, and is at rest with an empty journal.
@@ -79,7 +79,7 @@ pub fn recovery_recovers_at_any_step()
         → Recoverable key context xs writes found s j
         → StopsAt (storage_effect found) (recovery_steps (length found)) k s s'
         → StopsAt (journal_effect j.bytes) (recovery_steps (length found)) k j j'
-        → RecoversUnlessForged key context xs writes (Some s'.disk) (Some j'.disk) }
+        → RecoversUnlessOtherJournal key context xs writes (Some s'.disk) (Some j'.disk) }
 {}
 
 /// After all steps of a recovery the storage has all the writes of the commit or none, and is at rest.

@@ -2,8 +2,7 @@
 
 ghost use Rattle.std.specs.Prelude.{◌≡◌, ◌≤◌, IfErr, IfSome, List, OnOk, length, ℕ};
 ghost use Rattle.aegis_storage.specs.Disk.{Writes};
-ghost use Rattle.aegis_storage.specs.Errors.{IsRecoverError};
-ghost use Rattle.aegis_storage.specs.Journal.{AreWithin, IsNoOtherJournal, KeepsBeginning, RecoversUnlessForged, RecoversKnown, RestsAtEither, entries};
+ghost use Rattle.aegis_storage.specs.Journal.{AreWithin, IsNoOtherJournal, IsRecoverError, KeepsBeginning, RecoversKnown, RecoversUnlessOtherJournal, RestsAtEither, entries};
 ghost use Rattle.aegis_storage.specs.Steps.{AreRedone};
 
 use crate::calls::read_all;
@@ -50,15 +49,15 @@ pub fn recover<S: Storage, J: Storage, A: Allocator + Copy>(
         (S.bytes storage.old) (S.bytes storage.new)) }
     ensures recovers { (xs : List ℕ) (writes : Writes)
         → IfSome (J.bytes journal.old) (IsNoOtherJournal key.now context.now writes)
-        → RecoversUnlessForged key.now context.now xs writes
+        → RecoversUnlessOtherJournal key.now context.now xs writes
         (S.disk storage.old) (J.disk journal.old)
-        → RecoversUnlessForged key.now context.now xs writes
+        → RecoversUnlessOtherJournal key.now context.now xs writes
         (S.disk storage.new) (J.disk journal.new) }
     ensures beginning { (beginning : List ℕ) → KeepsBeginning beginning (J.disk journal.old)
         → KeepsBeginning beginning (J.disk journal.new) }
     ensures at_rest { OnOk result ((xs : List ℕ) (writes : Writes)
         → IfSome (J.bytes journal.old) (IsNoOtherJournal key.now context.now writes)
-        → RecoversUnlessForged key.now context.now xs writes
+        → RecoversUnlessOtherJournal key.now context.now xs writes
         (S.disk storage.old) (J.disk journal.old)
         → RestsAtEither (S.disk storage.new) (J.disk journal.new) xs writes) }
     ensures cause { IfErr result (IsRecoverError S.errors J.errors (J.bytes journal.old)) }

@@ -1,12 +1,11 @@
 //! Where the bytes of a file are kept.
 
-ghost use Rattle.std.specs.Prelude.{◌≡◌, ◌+◌, ◌≤◌, ◌∷◌, [], IfErr, IfOk, IfSome, List, None, OnErr, OnOk, Option, Some, length, ⊤, ℕ};
+ghost use Rattle.std.specs.Prelude.{◌≡◌, ◌+◌, ◌≤◌, ◌⊎◌, ◌∷◌, [], IfErr, IfOk, IfSome, List, None, OnErr, OnOk, Option, Some, length, ⊤, ℕ};
 ghost use Rattle.std.proofs.Common.{refl};
 ghost use Rattle.std.specs.declared.io.Error.{Error};
 ghost use Rattle.std.specs.Io.KnownBytes.{Keeps};
-ghost use Rattle.aegis_storage.specs.Bytes.{ResizesTo, TearsAt, WritesAt, part_at};
-ghost use Rattle.aegis_storage.specs.Disk.{Adds, Disk, IsPossible, IsSynced, MakesCertain, Size, Spoils, Write, certain};
-ghost use Rattle.aegis_storage.specs.Errors.{IsVectorError};
+ghost use Rattle.aegis_storage.specs.Disk.{Adds, Disk, IsPossible, IsSynced, MakesCertain, ResizesTo, Size, Spoils, TearsAt, Write, WritesAt, certain, part_at};
+ghost use Rattle.aegis_storage.specs.Journal.{IsOutOfMemory, IsPastEnd};
 
 use crate::bytes::put;
 use std::alloc::Allocator;
@@ -27,8 +26,8 @@ pub const MAX_STORAGE_BYTES: u64 = 9_223_372_036_854_775_807;
 /// changes since. A crash is an event of this model: a vector is certain of its items in the model, as a disk that
 /// writes at once would be, and is still lost when its process ends. For files `disk` is `None`.
 ///
-/// Its ghost member `errors` has the errors that its calls may return. For a vector these are want of memory, and the
-/// end of what can be read; for a file they are any.
+/// Its ghost member `errors` has the errors that its calls may return, but for `UnexpectedEof` of `read_at`, whose cause
+/// is known. For a vector that is `OutOfMemory`; for a file they are any.
 pub trait Storage {
     // All the bytes, where they are known.
     ghost bytes: { Self → Option (List ℕ) } = { λ _. None };
@@ -50,7 +49,8 @@ pub trait Storage {
         requires { at + length out.old ≤ MAX_STORAGE_BYTES }
         ensures read { OnOk result (IfSome (bytes self.now)
             (λ xs. out.new ≡ part_at xs at (length out.old))) }
-        ensures cause { IfErr result errors };
+        ensures cause { IfErr result
+            (λ e. errors e ⊎ IsPastEnd (bytes self.now) at (length out.old) e) };
 
     /// Writes all of `part` over the bytes from `at` on. What lies past the end is added, and a gap is filled with
     /// zeros. After an error the bytes from `at` on may be any, as many as `part` has at most, and the others are as
@@ -108,7 +108,7 @@ impl<A: Allocator> Storage for Vec<u8, A> {
 
     ghost disk = { λ v. Some (certain v.items) };
 
-    ghost errors = { IsVectorError };
+    ghost errors = { IsOutOfMemory };
 
     ghost possible = { λ v. record { base = v.items; of_lost = refl; parts = []; of_pending = tt; are = refl } };
 

@@ -10,6 +10,7 @@ use Rattle.aegis_base.specs.Message.{seal, keystream}
 use Rattle.aegis_variants.specs.declared.cipher.Keys.{Keys}
 use Rattle.aegis_variants.specs.declared.cipher.AnyCipher.{AnyCipher}
 use Rattle.aegis_variants.specs.declared.cipher.AnyCipher.TheVariants as ciphers
+use Rattle.aegis_base.specs.Variant.{long_tag_bytes}
 
 -- a variant as the definitions have it
 abbrev pub standard_of : AnyVariant → base.Variant
@@ -27,7 +28,7 @@ key_length_of variant = base.key_length (standard_of variant).family
 -- the length of a tag, in bytes
 abbrev pub tag_length_of : TagLength → ℕ
 tag_length_of tag_lengths.Short = 16
-tag_length_of tag_lengths.Long = 32
+tag_length_of tag_lengths.Long = long_tag_bytes
 
 -- ---- ciphers
 

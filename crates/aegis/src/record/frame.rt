@@ -1,7 +1,7 @@
 //! The parts of a record.
 
 ghost use Rattle.std.specs.Prelude.{◌≡◌};
-ghost use Rattle.aegis.specs.Calls.{AreParts};
+ghost use Rattle.aegis.specs.Private.{AreParts};
 ghost use Rattle.aegis.specs.RecordStream.{parts};
 
 use crate::record::error::RecordError;

@@ -2,9 +2,8 @@
 //! other contracts cite.
 
 ghost use Rattle.std.specs.Prelude.{◌≡◌, ◌<◌, ◌++◌, List, length, ℕ};
-ghost use Rattle.aegis.specs.RecordStream.{IsOneFault, IsOneRecordStream, limit, records_length};
-ghost use Rattle.aegis.specs.Progress.{AreRecordsOfSomeVersion, Begun, Progress, start_of};
-ghost use Rattle.aegis.specs.Records.{AreRecords, IsFault, max_context_bytes, sealed};
+ghost use Rattle.aegis.specs.RecordStream.{AreRecords, IsFault, IsOneFault, IsOneRecordStream, limit, max_context_bytes, records_length, sealed};
+ghost use Rattle.aegis.specs.Calls.{AreRecordsOfSomeVersion, Begun, Progress, start_of};
 ghost use Rattle.aegis.specs.declared.record.error.RecordError.TheVariants.{Trailing};
 ghost use Rattle.aegis.specs.declared.record.version.Version.{Version};
 

@@ -2,8 +2,7 @@
 
 ghost use Rattle.std.specs.Prelude.{◌≡◌, ◌≢◌, ◌≤◌, ◌⊎◌, ◌++◌, IfErr, IfNone, IfOk, IfSome, List, length, take, ℕ};
 ghost use Rattle.aegis.specs.Calls.{IsRecord, IsRefused, OpensTo, messages, sealing_of};
-ghost use Rattle.aegis.specs.RecordStream.{IsFaultAt, header};
-ghost use Rattle.aegis.specs.Records.{AreRecords, IsFault};
+ghost use Rattle.aegis.specs.RecordStream.{AreRecords, IsFault, IsFaultAt, header};
 
 use crate::aegis256::Key;
 use crate::record::error::RecordError;

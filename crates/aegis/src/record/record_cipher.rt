@@ -3,10 +3,9 @@
 ghost use Rattle.std.specs.Prelude.{◌≡◌, ◌≢◌, ◌-◌, ◌≤◌, ◌⊎◌, ◌+◌, ◌++◌, ◌∷◌, [], IfErr, IfOk, List, OnErr, OnOk, drop, length, replicate, take, ℕ};
 ghost use Rattle.std.specs.Int.{to_le_bytes, w32, w64};
 ghost use Rattle.aegis_base.specs.Chunks.{joined};
-ghost use Rattle.aegis_base.specs.Limits.{erased_byte};
+ghost use Rattle.aegis_base.specs.Message.{erased_byte};
 ghost use Rattle.aegis.specs.Calls.{sealing_of};
-ghost use Rattle.aegis.specs.Records.{associated_data, before_bytes, nonce};
-ghost use Rattle.aegis.specs.RecordStream.{header, limit};
+ghost use Rattle.aegis.specs.RecordStream.{associated_data, before_bytes, header, limit, nonce};
 
 use crate::aegis256::{Aegis256, Error, Key, Nonce};
 use crate::record::error::RecordError;

@@ -3,8 +3,7 @@
 ghost use Rattle.std.specs.Prelude.{◌≡◌, ◌<◌, ◌≤◌, IfErr, IfOk, length};
 ghost use Rattle.aegis_base.specs.declared.error.TheConstants.{MAX_AEAD_BYTES};
 ghost use Rattle.aegis_base.specs.Chunks.{texts};
-ghost use Rattle.aegis.specs.Records.{AreRecords};
-ghost use Rattle.aegis.specs.RecordStream.{AreWithin, records_length};
+ghost use Rattle.aegis.specs.RecordStream.{AreRecords, AreWithin, records_length};
 ghost use Rattle.aegis.specs.declared.record.version.Version.TheVariants.{Second};
 
 use crate::aegis256::Key;

@@ -2,8 +2,7 @@
 
 ghost use Rattle.std.specs.Prelude.{◌≡◌, ◌≢◌, ◌+◌, ◌-◌, ◌≤◌, IfErr, IfOk, OnOk};
 ghost use Rattle.aegis_pages.specs.Layouts.{IsPageSize};
-ghost use Rattle.aegis_c_calls.specs.Codes.{number_of, success};
-ghost use Rattle.aegis_c_calls.specs.PageCalls.{header_code, place_code};
+ghost use Rattle.aegis_c_calls.specs.Codes.{header_code, number_of, place_code, success};
 
 use crate::refusal::Refusal;
 use aegis_pages::{MAX_CONTENTS_BYTES, MAX_PAGE_BYTES, MIN_PAGE_BYTES};

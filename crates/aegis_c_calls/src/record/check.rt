@@ -2,8 +2,7 @@
 
 ghost use Rattle.std.specs.Prelude.{◌≡◌, ◌≢◌, ◌+◌, ◌<◌, ◌≤◌, ℤ, IfErr, IfNone, IfOk, IfSome, OnOk};
 ghost use Rattle.aegis.specs.RecordStream.{start_at};
-ghost use Rattle.aegis_c_calls.specs.Codes.{number_of, success};
-ghost use Rattle.aegis_c_calls.specs.RecordCalls.{mark_code, record_code, next_position};
+ghost use Rattle.aegis_c_calls.specs.Codes.{mark_code, next_position, number_of, record_code, success};
 
 use crate::record::state::RecordState;
 use crate::refusal::Refusal;

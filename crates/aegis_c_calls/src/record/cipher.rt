@@ -1,9 +1,8 @@
 //! The next record of a stream that C has the state of: it is sealed and opened in place, and nothing is allocated.
 
 ghost use Rattle.std.specs.Prelude.{◌≡◌, ◌+◌, ◌≤◌, IfSome, IsSome, List, length, ℕ};
-ghost use Rattle.aegis.specs.Calls.{message_in, with_message};
-ghost use Rattle.aegis.specs.Progress.{record_of};
-ghost use Rattle.aegis_c_calls.specs.RecordCalls.{progress_of};
+ghost use Rattle.aegis.specs.Calls.{message_in, record_of, with_message};
+ghost use Rattle.aegis_c_calls.specs.Calls.{progress_of};
 
 use crate::record::state::{RecordState, position};
 use aegis::record::placed::{RecordCipher, open_record_in_place, seal_record_in_place};

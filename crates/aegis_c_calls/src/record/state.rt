@@ -1,7 +1,7 @@
 //! The state of a record stream, which C owns between two calls.
 
 ghost use Rattle.std.specs.Prelude.{◌≡◌};
-ghost use Rattle.aegis_c_calls.specs.RecordCalls.{next_position};
+ghost use Rattle.aegis_c_calls.specs.Codes.{next_position};
 
 use aegis::record::{RecordPosition, Version};
 

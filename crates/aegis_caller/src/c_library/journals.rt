@@ -3,9 +3,9 @@
 ghost use Rattle.std.specs.Prelude.{◌≡◌, ◌+◌, ◌<◌, ◌≤◌, ◌∷◌, [], IfOk, IsOk, List, OnOk, length, ℕ};
 ghost use Rattle.aegis_base.specs.Variant.{key_length};
 ghost use Rattle.aegis_pages.specs.Commits.{journal_key};
-ghost use Rattle.aegis_storage.specs.Bytes.{part_at};
-ghost use Rattle.aegis_storage.specs.Disk.{Writes};
-ghost use Rattle.aegis_c_calls.specs.JournalCalls.{HoldsWrites, IsJournaled, IsOwnCommit, IsWhole, followed_by};
+ghost use Rattle.aegis_storage.specs.Disk.{Writes, part_at};
+ghost use Rattle.aegis_c_calls.specs.PageCalls.{HoldsWrites, followed_by};
+ghost use Rattle.aegis_c_calls.specs.Private.{IsJournaled, IsOwnCommit, IsWhole};
 
 use aegis_base::LaneState;
 use aegis_c_calls::journal::{HEAD_BYTES, START_BYTES, begin, check, entry, last, next};

@@ -2,8 +2,8 @@
 
 ghost use Rattle.std.specs.Prelude.{◌≡◌, IsOk, OnOk, Some, length};
 ghost use Rattle.aegis_base.specs.Variant.{key_length};
-ghost use Rattle.aegis_c_calls.specs.PageCalls.{contents_in, header_seal_code, page_seal_code};
-ghost use Rattle.aegis_c_calls.specs.Codes.{success};
+ghost use Rattle.aegis_c_calls.specs.PageCalls.{contents_in};
+ghost use Rattle.aegis_c_calls.specs.Codes.{header_seal_code, page_seal_code, success};
 
 use aegis_base::LaneState;
 use aegis_c_calls::page::{page_header_open, page_header_seal, page_open, page_seal};

@@ -1,9 +1,8 @@
 //! A record stream: records are sealed and opened as the definition of streams says.
 
 ghost use Rattle.std.specs.Prelude.{◌≡◌, ◌∷◌, ◌++◌, [], IfOk, OnOk, OnSome};
-ghost use Rattle.aegis.specs.Calls.{message_in};
-ghost use Rattle.aegis.specs.Progress.{progress_at, record_of};
-ghost use Rattle.aegis.specs.Records.{AreRecords};
+ghost use Rattle.aegis.specs.Calls.{message_in, progress_at, record_of};
+ghost use Rattle.aegis.specs.RecordStream.{AreRecords};
 ghost use Rattle.aegis.specs.declared.record.version.Version.TheVariants.{Second};
 
 use aegis::record::RecordPosition;

@@ -4,7 +4,7 @@
 ghost use Rattle.std.specs.Prelude.{◌≡◌, ◌≢◌, ℕ, ◌+◌, ◌≤◌, ◌++◌, IsOk, List, OnErr, length, replicate, take};
 ghost use Rattle.aegis_base.specs.Chunks.{accepted, erased, joined};
 ghost use Rattle.aegis_base.specs.Lane.{IsTagLength};
-ghost use Rattle.aegis_base.specs.Limits.{erased_byte};
+ghost use Rattle.aegis_base.specs.Message.{erased_byte};
 ghost use Rattle.aegis_variants.specs.Cipher.{keystream_of, mac_by, sealed_by};
 
 use aegis::laws::keystream_xor_twice;

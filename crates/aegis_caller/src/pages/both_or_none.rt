@@ -1,8 +1,9 @@
 //! Two places of a storage that are changed together.
 
-ghost use Rattle.std.specs.Prelude.{◌≡◌, ◌+◌, ◌≤◌, ◌∷◌, [], IfOk, IfSome, List, OnOk, length, ℕ};
-ghost use Rattle.aegis_storage.specs.Disk.{Writes, writes_of};
-ghost use Rattle.aegis_storage.specs.Journal.{IsAtRest, IsNoOtherJournal, RecoversUnlessForged, RestsAtEither};
+ghost use Rattle.std.specs.Prelude.{◌≡◌, ◌+◌, ◌≤◌, ◌⊎◌, ◌∷◌, [], IfOk, IfSome, List, OnOk, Some, length, ℕ};
+ghost use Rattle.aegis_storage.specs.Disk.{Writes, certain, writes_of};
+ghost use Rattle.aegis_storage.specs.Journal.{IsAtRest, IsNoOtherJournal, RecoversUnlessOtherJournal, RestsAtEither, entries, framed};
+ghost use Rattle.aegis_storage.specs.Steps.{StopsInCommit};
 ghost use Rattle.aegis_storage.specs.declared.store.TheConstants.{MAX_STORAGE_BYTES};
 
 use aegis::aegis128l::{Key, Nonce};
@@ -12,7 +13,7 @@ use std::alloc::Allocator;
 use std::io;
 
 /// Makes writes. Whatever it returns, a crash leaves a storage and a journal from which recovery makes all of them or
-/// none, unless it leaves another whole journal.
+/// none, unless it leaves another whole journal. The journal is empty, or what the steps leave of the one of this nonce.
 pub fn write_all<S: Storage, J: Storage, A: Allocator + Copy>(
     alloc: A,
     storage: &mut S,
@@ -23,8 +24,12 @@ pub fn write_all<S: Storage, J: Storage, A: Allocator + Copy>(
     writes: &[PendingWrite<A>],
 ) -> io::Result<()>
     ensures { (xs : List ℕ) → IsAtRest (S.disk storage.old) (J.disk journal.old) xs
-        → RecoversUnlessForged key.now [] xs (writes_of writes.now)
+        → RecoversUnlessOtherJournal key.now [] xs (writes_of writes.now)
         (S.disk storage.new) (J.disk journal.new) }
+    ensures journal { (xs : List ℕ) → IsAtRest (S.disk storage.old) (J.disk journal.old) xs
+        → (J.disk journal.new ≡ Some (certain [])) ⊎ StopsInCommit key.now []
+        (framed key.now beginning.now nonce.now [] (entries (writes_of writes.now))) xs
+        (writes_of writes.now) (S.disk storage.new) (J.disk journal.new) }
 {
     commit(alloc, storage, journal, key, beginning, nonce, &[], writes)
 }
@@ -62,7 +67,7 @@ pub fn write_these<S: Storage, J: Storage, A: Allocator + Copy>(
 ) -> io::Result<()>
     requires { writes_of writes.now ≡ (places.0, first.now) ∷ (places.1, second.now) ∷ [] }
     ensures { (xs : List ℕ) → IsAtRest (S.disk storage.old) (J.disk journal.old) xs
-        → RecoversUnlessForged key.now [] xs ((places.0, first.now) ∷ (places.1, second.now) ∷ [])
+        → RecoversUnlessOtherJournal key.now [] xs ((places.0, first.now) ∷ (places.1, second.now) ∷ [])
         (S.disk storage.new) (J.disk journal.new) }
 {
     write_all(alloc, storage, journal, key, beginning, nonce, writes)
@@ -84,7 +89,7 @@ pub fn write_both<S: Storage, J: Storage, A: Allocator + Copy>(
     requires first { places.0 + length first.now ≤ MAX_STORAGE_BYTES }
     requires second { places.1 + length second.now ≤ MAX_STORAGE_BYTES }
     ensures recovers { (xs : List ℕ) → IsAtRest (S.disk storage.old) (J.disk journal.old) xs
-        → RecoversUnlessForged key.now [] xs ((places.0, first.now) ∷ (places.1, second.now) ∷ [])
+        → RecoversUnlessOtherJournal key.now [] xs ((places.0, first.now) ∷ (places.1, second.now) ∷ [])
         (S.disk storage.new) (J.disk journal.new) }
 {
     recovers_at_rest();
@@ -104,7 +109,7 @@ pub fn open_both<S: Storage, J: Storage, A: Allocator + Copy>(
 ) -> io::Result<()>
     ensures { OnOk result ((xs : List ℕ) (writes : Writes)
         → IfSome (J.bytes journal.old) (IsNoOtherJournal key.now [] writes)
-        → RecoversUnlessForged key.now [] xs writes (S.disk storage.old) (J.disk journal.old)
+        → RecoversUnlessOtherJournal key.now [] xs writes (S.disk storage.old) (J.disk journal.old)
         → RestsAtEither (S.disk storage.new) (J.disk journal.new) xs writes) }
 {
     recover(alloc, storage, journal, key, &[])

@@ -1,6 +1,6 @@
 //! Why a commit fails: what a caller knows of an error, from the errors of the storages and of the source of nonces.
 
-ghost use Rattle.std.specs.Prelude.{◌≡◌, ◌≢◌, ◌≤◌, [], Err, IfErr, length};
+ghost use Rattle.std.specs.Prelude.{◌≡◌, ◌≢◌, ◌+◌, ◌≤◌, ◌⊎◌, [], Err, IfErr, OnOk, length, true};
 ghost use Rattle.std.specs.IoError.{error_kind};
 ghost use Rattle.std.specs.declared.io.Error.{Error};
 ghost use Rattle.std.specs.declared.io.ErrorKind.{ErrorKind};
@@ -41,7 +41,27 @@ pub fn commit_counted<S: Storage + Drop, J: Storage + Drop, A: Allocator + Copy>
     pages.commit()
 }
 
-/// Makes writes in a vector by way of an empty journal in another one. Neither is refused as occupied.
+/// Commits twice: the counter in the header is then greater by two.
+pub fn commit_twice<S: Storage + Drop, J: Storage + Drop, N: Nonces + Drop, A: Allocator + Copy>(
+    pages: &mut SealedPages<S, J, N, A>,
+) -> Result<(), PagesError>
+    ensures { OnOk result (pages.new.counter ≡ pages.old.counter + 2) }
+{
+    pages.commit()?;
+    pages.commit()
+}
+
+/// Takes the commitment of a file, and compares it again: a broken file has none.
+pub fn commitment_again<S: Storage + Drop, J: Storage + Drop, N: Nonces + Drop, A: Allocator + Copy>(
+    pages: &SealedPages<S, J, N, A>,
+) -> Result<(), PagesError>
+    ensures { pages.now.broken ≡ true → result ≡ Err PagesError.Broken }
+{
+    let commitment = pages.commitment()?;
+    pages.verify(&commitment)
+}
+
+/// Makes writes in a vector by way of an empty journal in another one. Memory may run out, or the journal be too long.
 pub fn commit_in_memory<A: Allocator + Copy>(
     alloc: A,
     storage: &mut Vec<u8, A>,
@@ -52,12 +72,13 @@ pub fn commit_in_memory<A: Allocator + Copy>(
     writes: &[PendingWrite<A>],
 ) -> io::Result<()>
     requires { length journal.old.items ≡ 0 }
-    ensures { IfErr result (λ error. error_kind error ≢ ErrorKind.AlreadyExists) }
+    ensures { IfErr result (λ error.
+        (error_kind error ≡ ErrorKind.OutOfMemory) ⊎ (error_kind error ≡ ErrorKind.InvalidInput)) }
 {
     commit(alloc, storage, journal, key, beginning, nonce, &[], writes)
 }
 
-/// Recovers a vector by its journal, which is not too long to be read.
+/// Recovers a vector by its journal, which is not too long to be read. Only memory may run out.
 pub fn recover_in_memory<A: Allocator + Copy>(
     alloc: A,
     storage: &mut Vec<u8, A>,
@@ -65,7 +86,7 @@ pub fn recover_in_memory<A: Allocator + Copy>(
     key: &Key,
 ) -> io::Result<()>
     requires { length journal.old.items ≤ MAX_STORAGE_BYTES }
-    ensures { IfErr result (λ error. error_kind error ≢ ErrorKind.InvalidData) }
+    ensures { IfErr result (λ error. error_kind error ≡ ErrorKind.OutOfMemory) }
 {
     recover(alloc, storage, journal, key, &[])
 }

@@ -2,7 +2,7 @@
 
 ghost use Rattle.std.specs.Prelude.{IfOk, IfSome};
 ghost use Rattle.aegis_base.specs.Variant.{Aegis256};
-ghost use Rattle.aegis_pages.specs.Commitments.{HasOneCommitment};
+ghost use Rattle.aegis_pages.specs.Commits.{HasOneCommitment};
 
 use aegis_pages::laws::opened_has_its_commitment;
 use aegis_pages::{Nonces, PagesError, SealedPages};

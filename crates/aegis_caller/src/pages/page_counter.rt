@@ -2,7 +2,7 @@
 
 ghost use Rattle.std.specs.Prelude.{◌≡◌, ◌+◌, ◌^◌, ◌<◌, IfOk, OnOk, ℕ};
 ghost use Rattle.aegis_pages.specs.OpenFile.{HasCommitted, HasContents, IsStoredAs, IsUnchanged};
-ghost use Rattle.aegis_pages.specs.Commits.{RecoversOneUnlessForged};
+ghost use Rattle.aegis_pages.specs.Commits.{RecoversOneUnlessOtherJournal};
 ghost use Rattle.aegis_caller.specs.Counter.{counter_contents};
 
 use aegis_pages::laws::{committed_recovers, whole_is_written};
@@ -72,7 +72,7 @@ pub fn count<S: Storage + Drop, J: Storage + Drop, N: Nonces + Drop, A: Allocato
         → HasCommitted pages.new (counter_contents (n + 1))) }
     ensures crash { (n : ℕ) → n + 1 < 2 ^ 64
         → HasCommitted pages.old (counter_contents n) → HasContents pages.old (counter_contents n)
-        → RecoversOneUnlessForged pages.new (counter_contents n) (counter_contents (n + 1)) }
+        → RecoversOneUnlessOtherJournal pages.new (counter_contents n) (counter_contents (n + 1)) }
 {
     committed_recovers();
     let next = add_one(pages)?;

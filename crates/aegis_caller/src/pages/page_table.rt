@@ -1,9 +1,9 @@
 //! A table of rows of 64 bytes in a sealed file.
 
 ghost use Rattle.std.specs.Prelude.{◌≡◌, ◌+◌, ◌*◌, ◌<◌, ◌≤◌, IfOk, IfSome, List, OnErr, OnOk, length, ℕ};
-ghost use Rattle.aegis_storage.specs.Bytes.{overwritten, part_at};
+ghost use Rattle.aegis_storage.specs.Disk.{overwritten, part_at};
 ghost use Rattle.aegis_base.specs.Variant.{Aegis256};
-ghost use Rattle.aegis_pages.specs.Commits.{MakesNoOther, RecoversContentsUnlessForged, RecoversOneUnlessForged};
+ghost use Rattle.aegis_pages.specs.Commits.{MakesNoOther, RecoversContentsUnlessOtherJournal, RecoversOneUnlessOtherJournal};
 ghost use Rattle.aegis_pages.specs.OpenFile.{HasCommitted, HasContents, IsStoredAs, OpensAtOne};
 
 use aegis_pages::laws::{others_are_kept, stored_is_committed};
@@ -94,7 +94,7 @@ pub fn commit_rows<S: Storage + Drop, J: Storage + Drop, N: Nonces + Drop, A: Al
     pages: &mut SealedPages<S, J, N, A>,
 ) -> Result<(), PagesError>
     ensures crash { (before now : List ℕ) → HasCommitted pages.old before
-        → HasContents pages.old now → RecoversOneUnlessForged pages.new before now }
+        → HasContents pages.old now → RecoversOneUnlessOtherJournal pages.new before now }
     ensures next { OnOk result ((before now : List ℕ) → HasCommitted pages.old before
         → HasContents pages.old now → HasCommitted pages.new now) }
 {
@@ -111,7 +111,7 @@ pub fn open_table<S: Storage + Drop, J: Storage + Drop, N: Nonces + Drop, A: All
     key: &[u8; 32],
 ) -> Result<SealedPages<S, J, N, A>, PagesError>
     ensures { IfOk result (λ pages. (before now : List ℕ)
-        → (batch : RecoversContentsUnlessForged Aegis256 key.now before now
+        → (batch : RecoversContentsUnlessOtherJournal Aegis256 key.now before now
         (S.disk storage) (J.disk journal))
         → IfSome (S.bytes storage) (λ file. IfSome (J.bytes journal) (MakesNoOther batch file))
         → OpensAtOne pages before now) }

@@ -1,7 +1,7 @@
 //! A stored value: a stream of one record, which is replaced under a new prefix.
 
 ghost use Rattle.std.specs.Prelude.{◌≡◌, ◌≢◌, ◌≤◌, ◌∷◌, [], IfOk, OnErr, OnOk, length};
-ghost use Rattle.aegis.specs.Records.{AreRecords};
+ghost use Rattle.aegis.specs.RecordStream.{AreRecords};
 ghost use Rattle.aegis.specs.declared.record.version.Version.TheVariants.{Second};
 
 use aegis::record::{MAX_CONTEXT_BYTES, MAX_MESSAGE_BYTES, RecordError, RecordSealer};

@@ -3,7 +3,7 @@
 
 ghost use Rattle.std.specs.Prelude.{◌≡◌, [], List, Some, length, take, ℕ};
 ghost use Rattle.aegis_storage.specs.Disk.{Writes, after_writes};
-ghost use Rattle.aegis_storage.specs.Journal.{IsAtRest, IsJournal, KeepsBeginning, RecoversUnlessForged, RestsAtEither};
+ghost use Rattle.aegis_storage.specs.Journal.{IsAtRest, IsJournal, KeepsBeginning, RecoversUnlessOtherJournal, RestsAtEither};
 ghost use Rattle.aegis_storage.specs.Steps.{Held, Recoverable, StopsAt, Taken, commit_steps, held, journal_effect, recovery_steps, step_at, storage_effect};
 
 use aegis_storage::laws::{
@@ -21,7 +21,7 @@ pub fn next_of_commit(taken: u64, writes: u64) -> Step
         → IsJournal key context writes journal
         → StopsAt (storage_effect writes) (commit_steps (length writes)) k (held xs) s
         → StopsAt (journal_effect journal) (commit_steps (length writes)) k (held []) j
-        → RecoversUnlessForged key context xs writes (Some s.disk) (Some j.disk) }
+        → RecoversUnlessOtherJournal key context xs writes (Some s.disk) (Some j.disk) }
     ensures begins { (key context journal : List ℕ) (writes : Writes) (k : ℕ) (j : Held)
         → IsJournal key context writes journal
         → StopsAt (journal_effect journal) (commit_steps (length writes)) k (held []) j
@@ -47,7 +47,7 @@ pub fn next_of_recovery(taken: u64, writes: u64) -> Step
         → Recoverable key context xs writes found s j
         → StopsAt (storage_effect found) (recovery_steps (length found)) k s s'
         → StopsAt (journal_effect j.bytes) (recovery_steps (length found)) k j j'
-        → RecoversUnlessForged key context xs writes (Some s'.disk) (Some j'.disk) }
+        → RecoversUnlessOtherJournal key context xs writes (Some s'.disk) (Some j'.disk) }
     ensures ends { (key context xs : List ℕ) (writes found : Writes) (s j s' j' : Held)
         → Recoverable key context xs writes found s j
         → Taken (storage_effect found) (recovery_steps (length found)) s s'

@@ -1,7 +1,7 @@
 //! The associated data of the second record of a stream, and the last one, whose context is empty.
 
 ghost use Rattle.std.specs.Prelude.{◌≡◌, ◌∷◌, []};
-ghost use Rattle.aegis.specs.Records.{associated_data};
+ghost use Rattle.aegis.specs.RecordStream.{associated_data};
 ghost use Rattle.aegis.specs.declared.record.version.Version.TheVariants.{First, Second};
 
 /// In the first version it has 13 bytes: the header, the record's number and its flag. In the second version it has 21:

@@ -3,8 +3,7 @@
 ghost use Rattle.std.specs.Prelude.{◌≡◌, ◌<◌, ◌≤◌, IfOk, List, length, ℕ};
 ghost use Rattle.aegis_base.specs.Chunks.{texts};
 ghost use Rattle.aegis.specs.Calls.{IsRefused, OpensTo, messages};
-ghost use Rattle.aegis.specs.Records.{AreRecords, IsFault};
-ghost use Rattle.aegis.specs.RecordStream.{AreWithin, records_length};
+ghost use Rattle.aegis.specs.RecordStream.{AreRecords, AreWithin, IsFault, records_length};
 ghost use Rattle.aegis.specs.declared.record.version.Version.{Version};
 ghost use Rattle.aegis.specs.declared.record.version.Version.TheVariants.{Second};
 

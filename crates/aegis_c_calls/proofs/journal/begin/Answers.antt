@@ -6,7 +6,7 @@ use Rattle.aegis_pages.specs.Commits.{journal_key}
 use Rattle.aegis_pages.specs.Layouts.{journal_beginning}
 use Rattle.aegis_c_calls.specs.PageCalls.{file_of}
 use Rattle.aegis_c_calls.proofs.JournalFacts.{head_is, none_written, saved_counts}
-use Rattle.aegis_c_calls.specs.JournalCalls.{IsJournaled}
+use Rattle.aegis_c_calls.specs.Private.{IsJournaled}
 use Rattle.aegis_c_calls.proofs.journal.begin.Goals as goal
 
 pub absorb-requires-clause-associated_data_within : goal.absorb-requires-clause-associated_data_within
@@ -33,7 +33,6 @@ returns-clause-call g c =
       answered = search rules;
       begun = λ all _. none_written (journal_key variant c.args.k.now) c.args.nonce.now c.array_of.result all _ (omega arith) ends (rw own at saved);
       written = λ _. head_is _ _ _ _ _ c.array_of.ensures (c.journal_beginning.ensures ∙ ap journal_beginning file) refl;
-      state_kept = search rules;
       kept = search rules;
     }
 

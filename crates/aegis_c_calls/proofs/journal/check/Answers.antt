@@ -1,7 +1,7 @@
 use Rattle.std.proofs.Common.{◌≡◌, ◌∙◌, List, ap, arith, refl, rules, ℕ}
 use Rattle.aegis_pages.specs.Commits.{journal_key}
 use Rattle.aegis_c_calls.proofs.JournalFacts.{content_within, may_be, may_not_be, own_may_be, was_read, whole_found}
-use Rattle.aegis_c_calls.specs.JournalCalls.{IsOwnCommit, IsWhole}
+use Rattle.aegis_c_calls.specs.Private.{IsOwnCommit, IsWhole}
 use Rattle.aegis_c_calls.proofs.journal.check.Goals as goal
 
 pub returns-in-Some-clause-call : goal.returns-in-Some-clause-call

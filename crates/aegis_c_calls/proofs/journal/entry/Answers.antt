@@ -3,7 +3,7 @@ use Rattle.std.proofs.lemmas.List.{append_assoc}
 use Rattle.std.specs.Int.{to_le_bytes, w64}
 use Rattle.aegis_storage.specs.Journal.{entry}
 use Rattle.aegis_c_calls.proofs.JournalFacts.{head_is, one_more_written}
-use Rattle.aegis_c_calls.specs.JournalCalls.{IsJournaled}
+use Rattle.aegis_c_calls.specs.Private.{IsJournaled}
 use Rattle.aegis_c_calls.proofs.journal.entry.Goals as goal
 
 pub returns-clause-call : goal.returns-clause-call
@@ -20,7 +20,6 @@ returns-clause-call c =
           one_more_written key all rest c.args.st.now c.absorb.new.st c.absorb-2.new.st c.args.place c.array_of.result bytes before c.in_ok-check_entry.ensures.within c.in_ok-check_entry.ensures.input is
           c.absorb.ensures.taken c.absorb-2.ensures.taken so_far;
       written = λ _. is;
-      state_kept = search rules;
       kept = search rules;
     }
 

@@ -1,6 +1,6 @@
 use Rattle.std.proofs.Common.{◌∙◌, List, ap, refl, rules, subst, sym, ℕ}
 use Rattle.aegis_storage.specs.Journal.{entries}
-use Rattle.aegis_c_calls.specs.JournalCalls.{HoldsWrites}
+use Rattle.aegis_c_calls.specs.PageCalls.{HoldsWrites}
 use Rattle.aegis_c_calls.proofs.JournalFacts.{first_held, first_long, first_read, holds_one}
 use Rattle.aegis_c_calls.proofs.journal.next.Goals as goal
 
@@ -11,8 +11,7 @@ returns-in_default c = record {
   within = search rules;
   long = search rules;
   one = λ write after holds. let held = holds_one _ write after holds in absurd (c.in_default.ensures.none write (entries after) held.0 held.1);
-  place_kept = λ _. refl;
-  len_kept = λ _. refl;
+  kept = λ _. (refl, refl);
 }
 
 pub returns : goal.returns
@@ -27,6 +26,5 @@ returns c =
       one = λ write after holds.
           let first = first_held c.args.writes.now write after c.in-Some.found c.in-Some.bytes.now c.in-Some._rest.now holds c.in-Some.ensures.within is in
           (refl, ap (λ (l : List ℕ). (c.in-Some.found, l)) read.0 ∙ first.0, subst (HoldsWrites after) (sym read.1) first.1);
-      place_kept = search rules;
-      len_kept = search rules;
+      kept = search rules;
     }

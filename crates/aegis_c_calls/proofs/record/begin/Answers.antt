@@ -10,6 +10,5 @@ returns c = record {
   first = λ _. c.first.ensures;
   begun = λ _. first_begun c.first.result SEALING c.args.key.now c.args.prefix.now c.args.context.now c.copy_from_slice.new.self c.first.ensures
       (c.copy_from_slice.ensures.after ∙ c.header.ensures);
-  state_kept = search rules;
   kept = search rules;
 }

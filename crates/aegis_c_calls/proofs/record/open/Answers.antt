@@ -1,6 +1,6 @@
 use Rattle.std.proofs.Common.{◌∙◌, ap, arith, refl, rules}
 use Rattle.aegis.specs.Calls.{message_in}
-use Rattle.aegis_c_calls.specs.RecordCalls.{after_record}
+use Rattle.aegis_c_calls.specs.Calls.{after_record}
 use Rattle.aegis_c_calls.proofs.Begun.{last_whole, next_begun}
 use Rattle.aegis_c_calls.proofs.record.open.Goals as goal
 
@@ -21,7 +21,6 @@ returns-then-found-eq1 c = record {
   erased = search rules;
   kept = search rules;
   state_kept = search rules;
-  flag_kept = search rules;
 }
 
 pub returns-else-found-eq1 : goal.returns-else-found-eq1
@@ -41,5 +40,4 @@ returns-else-found-eq1 c = record {
   erased = search rules;
   kept = search rules;
   state_kept = search rules;
-  flag_kept = search rules;
 }

@@ -1,6 +1,6 @@
 use Rattle.std.proofs.Common.{◌∙◌, ap, refl, rules}
 use Rattle.aegis.specs.Calls.{message_in}
-use Rattle.aegis_c_calls.specs.RecordCalls.{after_record}
+use Rattle.aegis_c_calls.specs.Calls.{after_record}
 use Rattle.aegis_c_calls.proofs.Begun.{next_begun}
 use Rattle.aegis_c_calls.proofs.record.seal.Goals as goal
 
@@ -13,6 +13,5 @@ returns c =
       after = λ _. after;
       begun = λ _. next_begun c.args.st.now c.advance.new.st c.args.context.now _ (message_in c.args.bytes.now) c.seal_record.new.bytes c.advance.ensures refl
           (rw c.seal_record.auto.bytes c.in_ok-check_record.ensures.within) c.seal_record.ensures;
-      state_kept = search rules;
       kept = search rules;
     }

@@ -10,6 +10,5 @@ returns c = record {
   ended = λ _. refl;
   whole = λ _. last_whole c.args.st.now c.args.context.now (message_in c.args.bytes.now) c.seal_record.new.bytes
       (rw c.seal_record.auto.bytes c.in_ok-check_record.ensures.within) c.seal_record.ensures;
-  state_kept = search rules;
   kept = search rules;
 }

@@ -1,6 +1,7 @@
 use Rattle.std.proofs.Common.{◌≡◌, ℕ, ◌+◌, ◌*◌, List}
 use Rattle.aegis_aes.specs.Block.{bytes_at}
-use Rattle.aegis_base.specs.Context.{IsUnopened, Takes, held_by}
+use Rattle.aegis_base.specs.Private.{IsUnopened}
+use Rattle.aegis_base.specs.Context.{Takes, held_by}
 use Rattle.aegis_engine.proofs.pass.absorb_whole.Given as goal
 
 abbrev pub invariant-loop-i : goal.invariant-loop-i

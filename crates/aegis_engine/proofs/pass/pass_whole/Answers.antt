@@ -1,5 +1,6 @@
 use Rattle.std.proofs.Common.{◌≡◌, ◌∙◌, sym, refl, ℕ, ◌+◌, ◌*◌, ◌%◌, ◌<◌, List, length, bit_xor, slice_index, arith}
-use Rattle.aegis_aes.specs.Block.{IsSameBefore, IsSameFrom, bytes_at}
+use Rattle.aegis_aes.specs.Private.{IsSameBefore, IsSameFrom}
+use Rattle.aegis_aes.specs.Block.{bytes_at}
 use Rattle.aegis_aes.proofs.Places.{length-bytes_at}
 use Rattle.aegis_base.specs.Lane.{update}
 use Rattle.aegis_base.specs.Message.{keystream_byte, share_at}

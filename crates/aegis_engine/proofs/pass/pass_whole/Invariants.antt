@@ -1,6 +1,8 @@
 use Rattle.std.proofs.Common.{◌≡◌, ℕ, ◌+◌, ◌*◌, List}
-use Rattle.aegis_aes.specs.Block.{IsSameBefore, IsSameFrom, bytes_at}
-use Rattle.aegis_base.specs.Context.{IsUnopened, held_by}
+use Rattle.aegis_aes.specs.Private.{IsSameBefore, IsSameFrom}
+use Rattle.aegis_aes.specs.Block.{bytes_at}
+use Rattle.aegis_base.specs.Private.{IsUnopened}
+use Rattle.aegis_base.specs.Context.{held_by}
 use Rattle.aegis_engine.specs.Pass.{IsPassed}
 use Rattle.aegis_engine.proofs.pass.pass_whole.Given as goal
 

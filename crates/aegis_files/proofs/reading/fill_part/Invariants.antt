@@ -1,5 +1,5 @@
 use Rattle.std.proofs.Common.{◌-◌, ◌≤◌}
-use Rattle.aegis_files.specs.SealedFile.{ReadsPart}
+use Rattle.aegis_files.specs.Private.{ReadsPart}
 use Rattle.aegis_files.proofs.reading.fill_part.Given as goal
 
 abbrev pub invariant-steps : goal.invariant-steps

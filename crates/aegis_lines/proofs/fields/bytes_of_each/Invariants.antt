@@ -1,6 +1,6 @@
 use Rattle.std.proofs.Common.{◌≡◌, map, take, vec_items}
 use Rattle.aegis_base.specs.Chunks.{texts}
-use Rattle.aegis_lines.specs.Table.{bytes_of}
+use Rattle.aegis_lines.specs.Answer.{bytes_of}
 use Rattle.aegis_lines.proofs.fields.bytes_of_each.Given as goal
 
 abbrev pub invariant-loop-piece : goal.invariant-loop-piece

@@ -1,6 +1,6 @@
 use Rattle.std.proofs.Common.{◌≡◌, ◌++◌, ◌∷◌, map, take, vec_items}
 use Rattle.std.specs.Prelude.{flat_map}
-use Rattle.aegis_lines.specs.Table.{shown}
+use Rattle.aegis_lines.specs.Answer.{shown}
 use Rattle.aegis_lines.proofs.records.opened_text.Given as goal
 
 -- The text has the other messages so far.

@@ -1,7 +1,7 @@
 use Rattle.std.proofs.Common.{◌≡◌, ◌+◌, ◌*◌, ◌++◌, [], List, ℕ, ap, arith, length, replicate, ◌∙◌}
 use Rattle.std.proofs.lemmas.List.{length-append}
 use Rattle.std.specs.Int.{to_le_bytes, w64}
-use Rattle.aegis_pages.specs.Commitments.{page_count}
+use Rattle.aegis_pages.specs.Commits.{page_count}
 use Rattle.aegis_pages.specs.Layouts.{plaintext_header, nonce_bytes}
 use Rattle.aegis_pages.proofs.CommitmentFacts.{begun, committed_mac, length_begun, one_more, saved_message, saved_so}
 use Rattle.aegis_pages.proofs.KnownFacts.{known_all, known_map, known_map2}

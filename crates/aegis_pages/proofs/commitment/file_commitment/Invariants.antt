@@ -1,7 +1,7 @@
 use Rattle.std.proofs.Common.{◌≡◌, ◌+◌, ◌*◌, ℕ, List, [], ◌++◌, IfSome, length, replicate}
 use Rattle.std.specs.Int.{to_le_bytes, w64}
 use Rattle.aegis_engine.specs.Saved.{IsSaved}
-use Rattle.aegis_pages.specs.Commitments.{page_tags}
+use Rattle.aegis_pages.specs.Commits.{page_tags}
 use Rattle.aegis_pages.specs.Layouts.{plaintext_header, nonce_bytes}
 use Rattle.aegis_pages.proofs.commitment.file_commitment.Given as goal
 

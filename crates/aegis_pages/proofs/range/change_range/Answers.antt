@@ -1,5 +1,5 @@
 use Rattle.std.proofs.Common.{◌≡◌, ℕ, ◌+◌, ◌-◌, ◌/◌, ◌≤◌, ◌∙◌, Some, ap, arith, length, min}
-use Rattle.aegis_pages.specs.Changed.{contents_at}
+use Rattle.aegis_pages.specs.OpenFile.{contents_at}
 use Rattle.aegis_pages.specs.Layouts.{Layout, inner}
 use Rattle.aegis_pages.proofs.ComposeFacts.{slice_inner}
 use Rattle.aegis_pages.proofs.KnownFacts.{known_map, known_map2}

@@ -1,5 +1,5 @@
 use Rattle.std.proofs.Common.{◌≡◌, IfSome, length}
-use Rattle.aegis_pages.specs.Changed.{contents_at}
+use Rattle.aegis_pages.specs.OpenFile.{contents_at}
 use Rattle.aegis_pages.proofs.RangeFacts.{Keeps, Rewrites}
 use Rattle.aegis_pages.proofs.range.change_range.Given as goal
 

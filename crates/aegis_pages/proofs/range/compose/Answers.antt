@@ -1,9 +1,8 @@
 use Rattle.std.proofs.Common.{◌≡◌, ℕ, ◌+◌, ◌-◌, ◌*◌, ◌<◌, ◌∙◌, IfSome, List, ap, arith, drop, get_or, length, sym, take}
 use Rattle.std.proofs.lemmas.List.{length-drop, length-take}
-use Rattle.aegis_storage.specs.Bytes.{overwritten}
-use Rattle.aegis_pages.specs.Changed.{contents_at}
+use Rattle.aegis_storage.specs.Disk.{overwritten}
+use Rattle.aegis_pages.specs.OpenFile.{IsPage, contents_at}
 use Rattle.aegis_pages.specs.Layouts.{sealed_bytes}
-use Rattle.aegis_pages.specs.SealedPages.{IsPage}
 use Rattle.aegis_pages.proofs.ComposeFacts.{inner_put, lies_so, live_at}
 use Rattle.aegis_pages.proofs.KnownFacts.{known_all, known_map}
 use Rattle.aegis_pages.proofs.range.compose.Goals.{then-live-gt0+in_ok-show_page, else-live-gt0}

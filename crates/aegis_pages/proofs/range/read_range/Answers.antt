@@ -1,7 +1,7 @@
 use Rattle.std.proofs.Common.{◌≡◌, ◌+◌, ◌-◌, ◌%◌, ◌<◌, ◌≤◌, ◌∙◌, ℕ, ap, arith, drop, length, refl, take}
 use Rattle.std.proofs.lemmas.Nat.{mod_below}
-use Rattle.aegis_storage.specs.Bytes.{overwritten}
-use Rattle.aegis_pages.specs.Changed.{contents_at}
+use Rattle.aegis_storage.specs.Disk.{overwritten}
+use Rattle.aegis_pages.specs.OpenFile.{contents_at}
 use Rattle.aegis_pages.proofs.KnownFacts.{known_map2}
 use Rattle.aegis_pages.proofs.RangeFacts.{Puts, bytes_more, contents_more}
 use Rattle.aegis_pages.proofs.range.read_range.Given.{Over}

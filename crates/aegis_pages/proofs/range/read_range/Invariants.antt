@@ -1,6 +1,5 @@
 use Rattle.std.proofs.Common.{◌≡◌, ℕ, ◌+◌, ◌-◌, ◌<◌, ◌≤◌, IfSome, List, get_or, length}
-use Rattle.aegis_pages.specs.Changed.{contents_at}
-use Rattle.aegis_pages.specs.SealedPages.{ArePages, IsByte}
+use Rattle.aegis_pages.specs.OpenFile.{ArePages, IsByte, contents_at}
 use Rattle.aegis_pages.proofs.range.read_range.Given as goal
 
 abbrev pub invariant-loop-done : goal.invariant-loop-done

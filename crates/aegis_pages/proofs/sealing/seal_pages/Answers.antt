@@ -1,7 +1,8 @@
 use Rattle.std.proofs.Common.{◌≡◌, ◌++◌, ◌∷◌, [], ◌∙◌, ap, append-nil, append_assoc, length, refl, rules, subst, sym}
 use Rattle.aegis_storage.specs.Disk.{writes_of, Writes}
 use Rattle.aegis_storage.proofs.Journals.{writes_pushed}
-use Rattle.aegis_pages.specs.Changed.{Plaintexts, plaintexts_in, FitPages, Seals}
+use Rattle.aegis_pages.specs.OpenFile.{Plaintexts}
+use Rattle.aegis_pages.specs.Private.{plaintexts_in, FitPages, Seals}
 use Rattle.aegis_pages.specs.Layouts.{OpensAt}
 use Rattle.aegis_pages.proofs.CommitFacts.{seals_more}
 use Rattle.aegis_pages.proofs.ChangedFacts.{fit_item, have_one, plaintexts_of}

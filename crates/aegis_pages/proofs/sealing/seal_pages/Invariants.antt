@@ -1,6 +1,7 @@
 use Rattle.std.proofs.Common.{◌≡◌, ◌++◌}
 use Rattle.aegis_storage.specs.Disk.{Writes, writes_of}
-use Rattle.aegis_pages.specs.Changed.{Plaintexts, plaintexts_in, Seals}
+use Rattle.aegis_pages.specs.OpenFile.{Plaintexts}
+use Rattle.aegis_pages.specs.Private.{plaintexts_in, Seals}
 use Rattle.aegis_pages.proofs.ChangedFacts.{plaintexts_of}
 use Rattle.aegis_pages.proofs.sealing.seal_pages.Given as goal
 

@@ -1,7 +1,7 @@
 use Rattle.std.proofs.Common.{◌≡◌, ◌++◌, ◌∷◌, [], ◌∙◌, ap, arith, length, refl}
 use Rattle.aegis_storage.specs.Disk.{writes_of}
 use Rattle.aegis_storage.proofs.Journals.{writes_pushed}
-use Rattle.aegis_pages.specs.Changed.{plaintexts_in}
+use Rattle.aegis_pages.specs.Private.{plaintexts_in}
 use Rattle.aegis_pages.proofs.CommitFacts.{commit_sealed, ends_commit, starts_commit}
 use Rattle.aegis_pages.proofs.sealing.sealed_commit.Goals as goal
 

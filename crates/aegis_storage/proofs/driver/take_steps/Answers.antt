@@ -1,5 +1,6 @@
 use Rattle.std.proofs.Common.{◌∙◌, ℕ, List, add-one, arith, length, refl, subst, sym, take}
-use Rattle.aegis_storage.specs.Steps.{IsNext, steps_of}
+use Rattle.aegis_storage.specs.Private.{IsNext}
+use Rattle.aegis_storage.specs.Steps.{steps_of}
 use Rattle.aegis_storage.specs.declared.steps.Step.{Step}
 use Rattle.aegis_storage.proofs.Stepping.{if_same, is_next, made_in, one_disk, reached_all, reached_first, reached_more, reached_written, recovery_begins, replaces, stopped_before, stopped_in_journal, stopped_in_storage}
 use Rattle.aegis_storage.proofs.driver.take_steps.Goals as goal

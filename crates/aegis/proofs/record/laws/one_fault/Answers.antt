@@ -1,6 +1,6 @@
 use Rattle.aegis.proofs.Sealed.{sealed-is}
 use Rattle.aegis.proofs.Frames.{one_fault}
-use Rattle.aegis.specs.Records.{sealed}
+use Rattle.aegis.specs.RecordStream.{sealed}
 use Rattle.aegis.proofs.record.laws.one_fault.Goals as goal
 
 pub returns : goal.returns

@@ -1,8 +1,7 @@
 use Rattle.std.proofs.Common.{◌≡◌, ◌+◌, ◌-◌, ◌++◌, ◌∙◌, [], List, add-one, ap, arith, drop, length, refl, subst, take, ℕ}
 use Rattle.aegis_base.specs.Chunks.{texts}
-use Rattle.aegis.specs.Progress.{Begun, start_of}
-use Rattle.aegis.specs.Records.{AreRecords, sealed}
-use Rattle.aegis.specs.RecordStream.{frames_length, header, records_length}
+use Rattle.aegis.specs.Calls.{Begun, start_of}
+use Rattle.aegis.specs.RecordStream.{AreRecords, frames_length, header, records_length, sealed}
 use Rattle.aegis.specs.declared.record.version.Version.TheVariants.{Second}
 use Rattle.aegis.proofs.Lengths.{length-stream}
 use Rattle.aegis.proofs.Sealed.{sealed-is}

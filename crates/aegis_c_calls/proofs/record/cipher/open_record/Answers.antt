@@ -1,5 +1,5 @@
 use Rattle.std.proofs.Common.{◌∙◌, arith, sym}
-use Rattle.aegis_c_calls.specs.RecordCalls.{progress_of}
+use Rattle.aegis_c_calls.specs.Calls.{progress_of}
 use Rattle.aegis_c_calls.proofs.OneRecord.{Opens, no_record, record_one, whole_long, whole_record}
 use Rattle.aegis_c_calls.proofs.record.cipher.open_record.Goals as goal
 

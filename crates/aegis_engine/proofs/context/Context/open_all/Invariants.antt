@@ -2,7 +2,7 @@ use Rattle.std.proofs.Common.{◌≡◌, ℕ, ◌≤◌, List, drop, length, tak
 use Rattle.aegis_base.specs.Chunks.{accepted_after}
 use Rattle.aegis_base.specs.Message.{ciphertext}
 use Rattle.aegis_base.specs.Context.{Continues, Stands}
-use Rattle.aegis_engine.specs.Chunk.{Fits}
+use Rattle.aegis_engine.specs.Private.{Fits}
 use Rattle.aegis_engine.proofs.context.Context.open_all.Given as goal
 
 abbrev pub invariant-loop-chunk : goal.invariant-loop-chunk

@@ -1,8 +1,7 @@
 use Rattle.std.proofs.Common.{◌+◌, ◌∙◌, ◌⊎◌, Err, false, IfSome, List, ap, inl, inr, subst, sym, ℕ}
 use Rattle.std.proofs.lemmas.Result.{err_from_is_err_and}
 use Rattle.aegis_pages.specs.Layouts.{Layout, layout_of}
-use Rattle.aegis_pages.specs.OpenFile.{HasContents, OpensAtOne, Has, IsKnown}
-use Rattle.aegis_pages.specs.SealedPages.{IsFileOf}
+use Rattle.aegis_pages.specs.OpenFile.{Has, HasContents, IsFileOf, IsKnown, OpensAtOne}
 use Rattle.aegis_pages.proofs.AcceptFacts.{own_is_made}
 use Rattle.aegis_pages.proofs.KnownFacts.{only_error}
 use Rattle.aegis_pages.proofs.RecoveryFacts.{committed_batch, opens_at_one, opens_held}

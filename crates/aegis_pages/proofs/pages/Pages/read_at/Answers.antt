@@ -1,9 +1,7 @@
 use Rattle.std.proofs.Common.{◌≡◌, ◌+◌, ◌<◌, ◌≤◌, ◌∙◌, ℕ, List, ◌++◌, ap, arith, drop, false, length, refl, subst, sym, take}
 use Rattle.std.proofs.lemmas.List.{get_or_append_left, length-append, length-drop, length-take, take_all, take_at}
-use Rattle.aegis_storage.specs.Bytes.{overwritten, part_at}
-use Rattle.aegis_pages.specs.Changed.{contents_at}
-use Rattle.aegis_pages.specs.OpenFile.{HasContents, Has, IsKnown}
-use Rattle.aegis_pages.specs.SealedPages.{IsByte}
+use Rattle.aegis_storage.specs.Disk.{overwritten, part_at}
+use Rattle.aegis_pages.specs.OpenFile.{Has, HasContents, IsByte, IsKnown, contents_at}
 use Rattle.aegis_pages.proofs.KnownFacts.{known_all, known_map, read_within}
 use Rattle.aegis_pages.proofs.OpenFileFacts.{has_len, has_use, put_back, read_so, written_none, written_read}
 use Rattle.aegis_pages.proofs.pages.Pages.read_at.Given.{Over}

@@ -1,8 +1,6 @@
 use Rattle.std.proofs.Common.{◌≡◌, ◌≤◌, ◌+◌, ◌∙◌, ℕ, IfErr, ap, arith, if◌then◌else◌, is_ok, length, max, min, subst}
-use Rattle.aegis_pages.specs.Changed.{contents_at}
-use Rattle.aegis_pages.specs.Errors.{IsWriteRefusal}
-use Rattle.aegis_pages.specs.SealedPages.{KeepsOthers}
-use Rattle.aegis_pages.specs.OpenFile.{HasContents, OpenFile}
+use Rattle.aegis_pages.specs.OpenFile.{HasContents, KeepsOthers, OpenFile, contents_at}
+use Rattle.aegis_pages.specs.Commits.{IsWriteRefusal}
 use Rattle.aegis_storage.proofs.Disks.{on_ok_map}
 use Rattle.aegis_pages.proofs.OpenFileFacts.{cut, grown, has_len}
 use Rattle.aegis_pages.proofs.pages.Pages.set_len.Goals as goal

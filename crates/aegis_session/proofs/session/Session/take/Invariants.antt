@@ -1,5 +1,5 @@
 use Rattle.std.proofs.Common.{ℕ, Bool, List, ◌++◌, drop}
-use Rattle.aegis_session.specs.Output.{lines_after, Answers}
+use Rattle.aegis_session.specs.Private.{lines_after, Answers}
 use Rattle.aegis_session.proofs.session.Session.take.Given as goal
 
 -- All lines are answered but those of the bytes after these.

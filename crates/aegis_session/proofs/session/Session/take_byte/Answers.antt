@@ -2,7 +2,7 @@
 use Rattle.std.proofs.Common.{[]}
 use Rattle.std.proofs.KnownBytes.{Appends-nil}
 use Rattle.std.proofs.lemmas.Result.{err_from_is_err_and, on_err_weaker}
-use Rattle.aegis_session.specs.Output.{lines_after}
+use Rattle.aegis_session.specs.Private.{lines_after}
 use Rattle.aegis_session.proofs.Reading.{lines_after-ended, lines_after-longer}
 use Rattle.aegis_session.proofs.OutputFacts.{no_answers, no_beginning, on_ok_both}
 use Rattle.aegis_session.proofs.session.Session.take_byte.Goals as goal
