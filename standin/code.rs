@@ -25,6 +25,11 @@ pub fn code(answer: Answer) -> i32 {
     answer.err().unwrap_or(DONE)
 }
 
+/// The result of a code.
+pub fn result(code: i32) -> Answer {
+    check(code == DONE, code)
+}
+
 /// Returns an error unless something holds.
 pub fn check(holds: bool, code: i32) -> Answer {
     if holds { Ok(()) } else { Err(code) }

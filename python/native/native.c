@@ -54,6 +54,19 @@ static void copy(uint8_t *to, const void *from, size_t length)
     }
 }
 
+/*
+ * Returns where to read data that are processed at `to`: `bytes` where they are, and any others at `to`, where they are
+ * copied with the interpreter's lock, so that no thread of Python can change them meanwhile.
+ */
+static const uint8_t *source(const Py_buffer *data, uint8_t *to, size_t length)
+{
+    if (PyBytes_CheckExact(data->obj)) {
+        return data->buf;
+    }
+    copy(to, data->buf, length);
+    return to;
+}
+
 /* Releases the interpreter's lock if work on so many bytes is long enough. Returns what `end_work` needs. */
 static PyThreadState *begin_work(size_t length)
 {
@@ -150,9 +163,9 @@ static PyObject *encrypt_chunk(State *self, const Py_buffer *data)
     if (result == NULL) {
         return NULL;
     }
-    copy(out, data->buf, length);
+    const uint8_t *from = source(data, out, length);
     PyThreadState *released = lock(self, length);
-    int code = hunkravy_state_encrypt_in_place(&self->state, out, length);
+    int code = hunkravy_state_encrypt(&self->state, out, from, length);
     unlock(self, released);
     return result_of(self, code, result);
 }
@@ -166,9 +179,9 @@ static PyObject *decrypt_chunk(State *self, const Py_buffer *data)
         return PyErr_NoMemory();
     }
     chunk->length = length;
-    copy(chunk->bytes, data->buf, length);
+    const uint8_t *from = source(data, chunk->bytes, length);
     PyThreadState *released = lock(self, length);
-    int code = hunkravy_state_decrypt_in_place_unverified(&self->state, chunk->bytes, length);
+    int code = hunkravy_state_decrypt_unverified(&self->state, chunk->bytes, from, length);
     if (code == HUNKRAVY_OK && length != 0) {
         chunk->previous = self->last;
         self->last = chunk;
@@ -377,7 +390,7 @@ static bool check(Cipher *self, const Arguments *arguments, bool is_decrypted, s
 
 /*
  * Encrypts to `out`, with the tag after the ciphertext, or decrypts the bytes in front of their tag. The nonce and the
- * data are copied first, with the interpreter's lock, so no thread of Python can change them meanwhile.
+ * tag are copied first, with the interpreter's lock.
  */
 static int transform(
     const Cipher *self, const Arguments *arguments, const uint8_t *associated, uint8_t *out, bool is_decrypted)
@@ -389,12 +402,12 @@ static int transform(
     if (is_decrypted) {
         memcpy(tag, (const uint8_t *)arguments->data.buf + length, self->tag_bytes);
     }
-    copy(out, arguments->data.buf, length);
+    const uint8_t *from = source(&arguments->data, out, length);
     PyThreadState *released = begin_work(length + associated_length);
-    int code = is_decrypted ? hunkravy_decrypt_in_place(self->variant, out, length, associated, associated_length,
-                                  nonce, key_bytes, self->key, key_bytes, tag, self->tag_bytes)
-                            : hunkravy_encrypt_in_place(self->variant, out, length, associated, associated_length,
-                                  nonce, key_bytes, self->key, key_bytes, out + length, self->tag_bytes);
+    int code = is_decrypted ? hunkravy_decrypt(self->variant, out, from, length, associated, associated_length, nonce,
+                                  key_bytes, self->key, key_bytes, tag, self->tag_bytes)
+                            : hunkravy_encrypt(self->variant, out, from, length, associated, associated_length, nonce,
+                                  key_bytes, self->key, key_bytes, out + length, self->tag_bytes);
     end_work(released);
     return code;
 }
