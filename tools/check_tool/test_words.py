@@ -44,8 +44,9 @@ class Words(Scene):
     # Commands, options where a dash is typed, files elsewhere, but none for a number.
     def test_completions_of_bash(self):
         script = 'compopt() { echo numbers; }; source "$0"; COMP_WORDS=(hunkravy "$@") COMP_CWORD=$#; _hunkravy; echo "${COMPREPLY[*]}"'
-        for words, found in (["se"], "seal\n"), (["open", "--f"], "--from --force\n"), (["open", "-k", ""], "\n"), \
-                (["open", "--from", ""], "numbers\n\n"), (["seal", "-k", "key", "sm"], "\n"):
+        for words, found in (["se"], "seal\n"), (["--"], "--help --version\n"), (["help", "re"], "rekey\n"), (["keygen", ""], "\n"), \
+                (["open", "--f"], "--from --force\n"), (["open", "-k", ""], "\n"), (["open", "--from", ""], "numbers\n\n"), \
+                (["seal", "-k", "key", "sm"], "\n"):
             self.tool(0, ["bash", "-c", script, MANUAL / "bash", *words])
             self.assertEqual(self.said, found, words)
 
