@@ -1,9 +1,10 @@
 #!/bin/bash
-# check_python.sh FOLDER LIBRARY: the tests of the Python package that lies unpacked in a folder, which run the samples
-# of its pages and its example too; the same tests of a native module over the library with gcc's sanitizers; what the
-# module exports and needs; and the types of the package and of its tests.
+# check_python.sh FOLDER SDIST: the tests of the Python package that lies unpacked in a folder, which run the samples of its
+# pages and its example too; the same tests of a native module with gcc's sanitizers; what the module exports and needs; and
+# the types of the package and of its tests.
 set -euo pipefail
-folder=$1 library=$2
+folder=$1
+export HUNKRAVY_SDIST=$2
 cd "$(dirname "$0")/../python"
 work=$(mktemp -d)
 trap 'rm -rf "$work"' EXIT
@@ -45,24 +46,27 @@ else
     echo 'left out: the Python package on a processor of level x86-64-v2, by qemu-x86_64, which is not installed'
 fi
 
+# build NAME: builds the wheel from the sources, and unpacks it.
+build() {
+    SOURCE_DATE_EPOCH=$(cd .. && . tools/revision.sh && revision_time) _PYTHON_HOST_PLATFORM=manylinux_2_17-$(uname -m) CC=gcc \
+        "$BUILD_PYTHON" -m pip --quiet wheel --no-index --no-deps --no-build-isolation -w "$work/$1-wheel" "$HUNKRAVY_SDIST"
+    python3 -m zipfile -e "$work/$1"-wheel/*.whl "$work/$1"
+}
+
 # On a processor that no build runs on, the import says so: the library of this module finds none.
-echo 'int __wrap_hunkravy_level(void); int __wrap_hunkravy_level(void) { return 0; }' > "$work/older.c"
-mkdir "$work/older"
-CC=gcc CFLAGS="-Wl,--wrap=hunkravy_level $work/older.c" python3 build_wheel.py "$work/older" "$library" "$(uname -m)" > "$work/wheel"
-python3 -m zipfile -e "$(cat "$work/wheel")" "$work/older"
+echo 'int __wrap_hunkravy_level(void); int __wrap_hunkravy_level(void) { return 0; }' | gcc -fPIC -c -o "$work/older.o" -x c -
+LDFLAGS="-Wl,--wrap=hunkravy_level $work/older.o" build older
 (PYTHONPATH=$work/older python3 -P -c 'import hunkravy' 2>&1 || true) | grep -q '^ImportError: .* x86-64-v2 ' ||
     fail 'the import does not say that the processor is too old'
 
 # Another build gives the same bytes as that of `make`.
-again=$(CC=gcc python3 build_wheel.py "$work" "$library" "$(uname -m)")
-cmp "$again" "$(dirname "$folder")/$(basename "$again")" || fail 'two builds of the wheel differ'
+CFLAGS=-Werror build again
+cmp "$work"/again-wheel/*.whl "$folder"/../*"$(uname -m)".whl || fail 'two builds of the wheel differ'
 
 # With the sanitizers. Python itself leaks.
 sanitizer=$(gcc -print-file-name=libasan.so)
 if [ -e "$sanitizer" ]; then
-    CC=gcc CFLAGS='-O1 -g -fsanitize=address,undefined -fno-sanitize-recover' \
-        python3 build_wheel.py "$work" "$library" "$(uname -m)" > "$work/wheel"
-    python3 -m zipfile -e "$(cat "$work/wheel")" "$work/sanitized"
+    CFLAGS='-O1 -g -fsanitize=address,undefined -fno-sanitize-recover' build sanitized
     export ASAN_OPTIONS=detect_leaks=0:allocator_may_return_null=1
     HUNKRAVY_SANITIZED=1 LD_PRELOAD=$sanitizer PYTHONMALLOC=malloc run_tests "$work/sanitized"
 else

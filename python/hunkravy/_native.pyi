@@ -9,6 +9,7 @@ from _typeshed import ReadableBuffer as Buffer
 from ._variants import Variant
 
 LEVEL: Final[int]
+VERSION: Final[str]
 
 def forks() -> int: ...
 
