@@ -241,6 +241,10 @@ if command -v cargo > /dev/null; then
 fi
 # Python: the wheel, and its sources, with the system's setuptools and with one that pip takes from a folder of wheels.
 for words in "$folder/python/*.whl" "$folder/python/*.tar.gz --no-build-isolation" "$folder/python/*.tar.gz --find-links=/usr/share/python-wheels"; do
+    if [[ $words == *find-links* ]] && ! ls /usr/share/python-wheels/wheel-*.whl > /dev/null 2>&1; then
+        echo 'left out: a build in isolation, since python3-setuptools-whl and python3-wheel-whl are not installed'
+        continue
+    fi
     rm -rf "$work/packages"
     # shellcheck disable=SC2086
     use PATH=/usr/bin:/bin "${install_to[@]}" packages $words
