@@ -9,10 +9,10 @@ PACKAGE = python/setup.py python/pyproject.toml python/MANIFEST.in LICENSE $(wil
 	$(wildcard python/hunkravy/*.py python/hunkravy/*.pyi python/hunkravy/py.typed)
 MODULE_HEADERS = c/include/hunkravy.h c/include/hunkravy_file.h c/include/hunkravy_records.h
 
-# The Python that builds them, which has pip, setuptools and wheel: that of the system, with its package python3-pip.
-BUILD_PYTHON = /usr/bin/python3
-BUILD_WHEEL = SOURCE_DATE_EPOCH=$$(. tools/revision.sh && revision_time) CFLAGS=-Werror \
-	$(BUILD_PYTHON) -m pip --quiet wheel --no-index --no-deps --no-build-isolation -w $(OUT) $(SDIST)
+# The Python that builds them, which has pip, setuptools and wheel: that of the system, with its package python3-pip. The time
+# of each file is the beginning of 1980, which zip begins with.
+export BUILD_PYTHON = /usr/bin/python3
+BUILD_WHEEL = SOURCE_DATE_EPOCH=315532800 CFLAGS=-Werror $(BUILD_PYTHON) -m pip --quiet wheel --no-index --no-deps --no-build-isolation -w $(OUT) $(SDIST)
 
 # With the kit the sources have the notices of Rattle's libraries.
 $(OUT)/NOTICES: tools/parts.py crates.txt VERSION
@@ -50,4 +50,4 @@ test-python: python-package
 # The tests of the package as the wheel has it, with files of the tool: see tools/check_python.sh.
 check-python: export HUNKRAVY_TOOL = $(CURDIR)/$(TOOL)
 check-python: python-package $(TOOL)
-	BUILD_PYTHON=$(BUILD_PYTHON) tools/check_python.sh "$(abspath $(OUT)/python)" "$(abspath $(SDIST))"
+	tools/check_python.sh "$(abspath $(OUT)/python)" "$(abspath $(SDIST))"
