@@ -243,13 +243,15 @@ class Files(unittest.TestCase):
 
         class Seeker:
             def __del__(self) -> None:
-                sought.extend(found.__exit__(None, None, None) for found in gc.get_objects() if type(found) is Batch)
+                batches: list[Any] = [found for found in gc.get_objects() if type(found) is Batch]
+                sought.extend(found.__exit__(None, None, None) for found in batches)
 
         class Maker:
             def __del__(self) -> None:
                 self.made = Seeker()
 
-        Batch, sought = _native.Batch, []
+        Batch = _native.Batch
+        sought: list[None] = []
         gc.collect()
         with RandomAccessFile.create(self.path, KEY) as file:
             batch, maker = file.batch(), Maker()
@@ -448,7 +450,7 @@ class Files(unittest.TestCase):
         for size in (8 << 20, 9 << 20):
             file = RandomAccessFile(self.path, KEY, check_same_thread=False)
             file.write_at(0, bytes(size))
-            second = file if size == 8 << 20 else file.open_stream()
+            second: Any = file if size == 8 << 20 else file.open_stream()
             with concurrent.futures.ThreadPoolExecutor(1) as other:
                 closed = other.submit(file.close)
                 while not file.closed:
