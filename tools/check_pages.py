@@ -246,6 +246,8 @@ VERSIONED = {
     "README.md": "hunkravy-{0}-x86_64-linux",
     "c/README.md": "hunkravy-{0}-x86_64-linux",
     "rust/README.md": "hunkravy-{0}-x86_64-linux",
+    "python/README.md": "hunkravy-{0}.tar.gz",
+    "CONTRIBUTING.md": "hunkravy-{0}.tar.gz",
 }
 
 
