@@ -215,14 +215,9 @@ for program in "$folder/bin/hunkravy" "$system/bin/hunkravy"; do
 done
 
 # Each shell has its own completions.
-while read -r page installed; do
-    cmp "crates/hunkravy/manual/$page" "$folder/share/$installed" || fail "$installed is not the page for $page"
-done << 'END'
-man man/man1/hunkravy.1
-bash bash-completion/completions/hunkravy
-zsh zsh/site-functions/_hunkravy
-fish fish/vendor_completions.d/hunkravy.fish
-END
+for pair in man:man/man1/hunkravy.1 bash:bash-completion/completions/hunkravy zsh:zsh/site-functions/_hunkravy fish:fish/vendor_completions.d/hunkravy.fish; do
+    cmp "crates/hunkravy/manual/${pair%%:*}" "$folder/share/${pair#*:}" || fail "${pair#*:} is not the page for ${pair%%:*}"
+done
 
 # Used with no kit and nothing of the repository in PATH: from C over the shared library and over the static one, from Rust and
 # Python over what is in the archive, and the tool.
