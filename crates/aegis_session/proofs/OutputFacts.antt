@@ -1,8 +1,8 @@
 -- Answers one after the other.
-use Rattle.std.proofs.Common.{◌≡◌, ℕ, ◌-◌, Result, Ok, Err, OnOk, Bool, ◌||◌, List, [], ◌∷◌, ◌++◌, Option, take, drop, length, refl, ap, sym, ◌∙◌, append_assoc, append-nil, take-append-drop, arith}
+use Rattle.std.proofs.Common.{ℕ, Result, Ok, Err, OnOk, Bool, ◌||◌, List, [], ◌∷◌, ◌++◌, Option, take, drop, refl, ap, sym, ◌∙◌, append_assoc, append-nil, take-append-drop, arith}
 use Rattle.std.proofs.Math.Bool.{or_assoc}
 use Rattle.std.proofs.KnownBytes.{Appends-nil, Appends-trans, Appends-kept}
-use Rattle.std.proofs.lemmas.Grind.{common_steps, flat_map-append}
+use Rattle.std.proofs.lemmas.Grind.{flat_map-append}
 use Rattle.std.proofs.lemmas.List.Folds.{list_any-append}
 use Rattle.std.specs.List.{list_any}
 use Rattle.std.specs.Io.KnownBytes.{Appends, Keeps}
@@ -97,10 +97,6 @@ more_beginning first second a b x y z p q = record {
 -- All lines were answered, and the writer kept what it was given.
 pub all_beginning : (first : List (List ℕ)) (a b : Bool) (x y z : Option (List ℕ)) → Answers first [] a b x y → Keeps y z → AnswersSome first x z
 all_beginning first a b x y z p kept = more_beginning first [] a b x y z p (no_beginning [] y z (appends_none y z kept))
-
--- a slice from a place to the end
-pub slice-end : (bytes : List ℕ) (start : ℕ) → take (length bytes - start) (drop start bytes) ≡ drop start bytes
-slice-end bytes start = grind (arith, common_steps)
 
 -- a consequence of two facts of a call that returned `Ok`
 pub on_ok_both : {T E P Q S : Type 0} (r : Result T E) → (P → Q → S) → OnOk r P → OnOk r Q → OnOk r S

@@ -2,7 +2,6 @@
 //! `aegis_lines`.
 #![tactic(auto)]
 
-mod output;
 mod session;
 
 pub use session::run;

@@ -5,7 +5,7 @@ ghost use Rattle.std.specs.Io.BufRead.{strip_last};
 ghost use Rattle.std.specs.Io.KnownBytes.{IsAtEnd};
 ghost use Rattle.aegis_session.specs.Output.{lines, lines_after, Answers, AnswersAll, AnswersRead, AnswersSome};
 
-use crate::output::write_whole;
+use aegis_files::write_whole;
 use aegis_lines::answer_line;
 use std::alloc::{AllocError, Allocator};
 use std::io;

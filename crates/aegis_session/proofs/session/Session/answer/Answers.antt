@@ -20,8 +20,8 @@ returns-in_err-write_whole-clause-err g c =
     let p = err_from_is_err_and c.from_residual-in_err-write_whole.result c.from_residual-in_err-write_whole.ensures.1 in
     let line = c.without_carriage_return.ensures ∙ ap (strip_last 13) c.deref.ensures.value in
     let answer = rw line at c.in-Ok.ensures.answer in
-    let written = rw (c.deref-3.ensures.value ∙ c.in_ok-push.ensures.items) at c.in_err-write_whole.ensures.err.1 in
-    rw p.1 (λ others. one_beginning _ _ others c.in_err-write_whole.ensures.err.0 _ _ answer written)
+    let written = rw (c.deref-3.ensures.value ∙ c.in_ok-push.ensures.items) at c.in_err-write_whole.ensures.beginning.1 in
+    rw p.1 (λ others. one_beginning _ _ others c.in_err-write_whole.ensures.beginning.0 _ _ answer written)
 
 pub returns-clause-ok : goal.returns-clause-ok
 returns-clause-ok g c =
