@@ -239,7 +239,7 @@ VERSIONED = {
     "CHANGELOG.md": "## [{0}] - ",
     "c/include/hunkravy.h": '#define HUNKRAVY_VERSION "{0}"\n#define HUNKRAVY_VERSION_MAJOR {1}\n'
     "#define HUNKRAVY_VERSION_MINOR {2}\n#define HUNKRAVY_VERSION_PATCH {3}\n",
-    "crates/aegis_tool/src/version.rt": 'const VERSION: &str = "{0}";',
+    "crates/aegis_tool/src/lib.rt": 'const VERSION: &str = "{0}";',
     "crates/hunkravy/manual/man": '"hunkravy {0}"',
     "rust/Cargo.toml": 'version = "{0}"\n',
     "rust/Cargo.lock": 'name = "hunkravy"\nversion = "{0}"\n',

@@ -1,5 +1,5 @@
 /*
- * The calls at once, of all six variants: the stored lines by each form of a call, wrong lengths, and the texts and
+ * The functions for a whole message, of all six variants: the stored lines in each form, wrong lengths, and the texts and
  * constants of the headers. Its parameter is the folder of the stored lines. If the library has one build alone, LEVEL
  * is the level of that. It ends with status 0 only if every result is right.
  */
