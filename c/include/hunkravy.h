@@ -96,7 +96,7 @@ enum hunkravy_code {
     HUNKRAVY_CONTEXT_TOO_LONG = -9,
     /* The header is not that of a record stream. */
     HUNKRAVY_UNKNOWN_HEADER = -10,
-    /* A record has less than HUNKRAVY_RECORD_BYTES, or the bytes of a journal begin with no write. */
+    /* A record has less than HUNKRAVY_RECORD_BYTES. */
     HUNKRAVY_WRONG_RECORD_LENGTH = -11,
     /* The page size is less than HUNKRAVY_PAGE_MIN_SIZE or more than HUNKRAVY_PAGE_MAX_SIZE. */
     HUNKRAVY_WRONG_PAGE_SIZE = -12,

@@ -80,6 +80,7 @@ int hunkravy_proved_record_len(const uint64_t *st, const uint8_t *head, size_t *
 int hunkravy_proved_record_open(uint64_t *st, const uint8_t *context, size_t contextlen, uint8_t *record,
     size_t recordlen, uint8_t *is_last);
 
+int hunkravy_proved_page_place(uint32_t variant, uint32_t page_size, uint64_t number, uint64_t *place);
 int hunkravy_proved_page_seal(uint32_t variant, uint8_t *page, size_t pagelen, const uint8_t *id, uint64_t number,
     const uint8_t *npub, size_t npublen, const uint8_t *k, size_t klen);
 int hunkravy_proved_page_open(uint32_t variant, uint8_t *page, size_t pagelen, const uint8_t *id, uint64_t number,

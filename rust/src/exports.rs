@@ -122,6 +122,7 @@ unsafe extern "C" {
     fn hunkravy_wipe(bytes: *mut u8, length: usize);
     /// Holds the standard descriptors that the program has closed, so that no file gets one. Returns an error number, or 0.
     pub safe fn hunkravy_hold_descriptors() -> i32;
+    pub safe fn hunkravy_page_place(variant: u32, page_size: u32, number: u64) -> u64;
     pub safe fn hunkravy_commit_step(number: u64, writes: u64, write: &mut u64) -> u32;
     pub safe fn hunkravy_recovery_step(number: u64, writes: u64, write: &mut u64) -> u32;
 }

@@ -7,7 +7,7 @@ use Rattle.aegis_base.specs.Limits.{max_aead_bytes}
 use Rattle.aegis_engine.specs.Saved.{begun_mark}
 use Rattle.aegis_engine.specs.declared.saved.SavedContext.{SavedContext}
 use Rattle.aegis_c_calls.specs.declared.refusal.Refusal.{Refusal}
-use Rattle.aegis_c_calls.specs.declared.refusal.Refusal.TheVariants.{InvalidTag, WrongNonceLength, WrongKeyLength, MessageTooLong, DataTooLong, WrongTagLength, WrongState, WrongVariant, ContextTooLong, UnknownHeader, WrongRecordLength, WrongPageSize, FileTooLong, WrongMessageLength, WrongJournal}
+use Rattle.aegis_c_calls.specs.declared.refusal.Refusal.TheVariants.{InvalidTag, WrongNonceLength, WrongKeyLength, MessageTooLong, DataTooLong, WrongTagLength, WrongState, WrongVariant, ContextTooLong, UnknownHeader, WrongRecordLength, WrongPageSize, FileTooLong, WrongMessageLength, WrongJournal, NoWrite}
 use Rattle.aegis_c_calls.specs.declared.state.State.{State}
 
 -- the variant of a number, if it is one of the six
@@ -92,6 +92,7 @@ number_of WrongPageSize = neg_ℤ (pos 12)
 number_of FileTooLong = neg_ℤ (pos 13)
 number_of WrongMessageLength = neg_ℤ (pos 14)
 number_of WrongJournal = neg_ℤ (pos 15)
+number_of NoWrite = neg_ℤ (pos 22)
 
 -- of what a body returns
 abbrev pub code_of : {Y : Type 0} → Result Y Refusal → ℤ

@@ -5,7 +5,7 @@ use Rattle.std.specs.Prelude.{ℕ, ℤ, ◌+◌, ◌==◌, leb, Option, Some, No
 use Rattle.aegis_base.specs.Variant.{Aegis128L, Variant}
 use Rattle.aegis_engine.specs.Saved.{IsSaved}
 use Rattle.aegis_c_calls.specs.Codes.{ended_state, journal_role, number_of, role_code, success, the}
-use Rattle.aegis_c_calls.specs.declared.refusal.Refusal.TheVariants.{FileTooLong, InvalidTag, WrongJournal, WrongRecordLength, WrongState}
+use Rattle.aegis_c_calls.specs.declared.refusal.Refusal.TheVariants.{FileTooLong, InvalidTag, NoWrite, WrongJournal, WrongState}
 use Rattle.aegis_c_calls.specs.PageCalls.{HasHeader, file_of, header_code, keyed_code}
 use Rattle.aegis_c_calls.specs.declared.state.State.{State}
 use Rattle.aegis_pages.specs.Commits.{IsAccepted, IsOfCommit, head_bytes, journal_key}
@@ -132,7 +132,7 @@ pub record JournalCheck (variant : Option Variant) (key file journal : List ℕ)
 
 -- The call finds the first of the writes, if there is one: its place, and the length of its bytes.
 pub record JournalNext (writes : List ℕ) (place place' len len' : ℕ) (code : ℤ) : Type 0 where
-  pub answered : code ≢ number_of WrongRecordLength → code ≡ success
+  pub answered : code ≢ number_of NoWrite → code ≡ success
   pub found : code ≡ success → writes ≡ entry (place', part_at writes 16 len') ++ drop (16 + len') writes
   pub within : code ≡ success → place' + len' ≤ max_storage_bytes
   pub long : code ≡ success → 16 + len' ≤ length writes

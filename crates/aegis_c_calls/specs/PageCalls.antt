@@ -6,7 +6,7 @@ use Rattle.aegis_base.specs.Variant.{Variant, key_length}
 use Rattle.aegis_base.specs.Limits.{erased_byte}
 use Rattle.aegis_c_calls.specs.Codes.{number_of, success, variant_code, key_bytes_of, the}
 use Rattle.aegis_c_calls.specs.declared.refusal.Refusal.TheVariants.{FileTooLong, InvalidTag, WrongKeyLength, WrongPageSize, WrongVariant}
-use Rattle.aegis_pages.specs.Layouts.{IsHeaderBlock, Layout, OpensAt, max_contents_bytes, max_page_bytes, min_page_bytes}
+use Rattle.aegis_pages.specs.Layouts.{IsHeaderBlock, Layout, OpensAt, max_contents_bytes, max_page_bytes, min_page_bytes, page_place}
 use Rattle.aegis_pages.specs.declared.header.FileHeader.{FileHeader}
 use Rattle.aegis_storage.specs.Bytes.{part_at}
 
@@ -25,6 +25,11 @@ contents_code n = if leb n max_contents_bytes then success else number_of FileTo
 -- its contents
 abbrev pub place_code : (n bytes number : ℕ) → ℤ
 place_code n bytes number = size_code (bytes - (n + 32)) (contents_code (number * (bytes - (n + 32))))
+
+-- for a page size, and for the number of a page
+abbrev pub page_place_code : Option Variant → (page_bytes number : ℕ) → ℤ
+page_place_code (Some variant) page_bytes number = size_code page_bytes (contents_code (number * page_bytes))
+page_place_code None page_bytes number = number_of WrongVariant
 
 -- for the page size and the length of the contents in a header
 abbrev pub header_code : ℕ → ℕ → ℤ
@@ -68,6 +73,12 @@ IsPageOf variant key id number page m = OpensAt (file_of variant key id (length 
 -- what a header names
 abbrev pub header_of : (page_bytes : ℕ) (id : List ℕ) (counter len : ℕ) → FileHeader
 header_of page_bytes id counter len = record { page_bytes = page_bytes; id = id; counter = counter; len = len }
+
+-- The call finds the position of a page in every file of this variant and page size; or it changes nothing.
+pub record PagePlace (variant : Option Variant) (page_bytes number place place' : ℕ) (code : ℤ) : Type 0 where
+  pub answered : code ≡ page_place_code variant page_bytes number
+  pub found : code ≡ success → (key id : List ℕ) → place' ≡ page_place (file_of (the variant) key id page_bytes) number
+  pub kept : code ≢ success → place' ≡ place
 
 -- The call seals the contents in `page` where they lie, and the page then opens to it at its number; or it changes
 -- nothing.

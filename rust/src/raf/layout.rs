@@ -14,8 +14,6 @@ const READ_BYTES: usize = 64 * 1024;
 pub const TAG_BYTES: usize = 32;
 /// The length of the header block.
 pub const HEADER_BLOCK_BYTES: usize = 512;
-/// Where the first page is.
-const FIRST_PAGE: u64 = 4096;
 /// The length of a file's id.
 pub const ID_BYTES: usize = 24;
 /// The length of the plaintext part of a header: the magic number, the algorithm, the chunk size and the id.
@@ -59,7 +57,7 @@ impl<A: Algorithm> Layout<A> {
 
     /// Where a page begins.
     pub fn page_place(&self, number: u64) -> u64 {
-        FIRST_PAGE + number * self.page_bytes() as u64
+        exports::hunkravy_page_place(A::NUMBER, self.chunk_size, number)
     }
 
     /// How many pages contents of `size` bytes have.
