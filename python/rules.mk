@@ -1,5 +1,5 @@
 # The Python package: its wheels, with the native module, and its tests.
-.PHONY: check-python python-package test-python
+.PHONY: check-python check-types python-package test-python
 
 # A wheel for each processor, with the library of its folder.
 WHEEL_NAME = $(OUT)/hunkravy-$(VERSION)-cp311-abi3-manylinux_2_17
@@ -28,7 +28,10 @@ python-package: $(WHEEL)
 test-python: python-package
 	cd python/tests && PYTHONPATH="$(CURDIR)/$(OUT)/python" python3 -B -m unittest
 
+check-types: python-package
+	tools/check_types.sh "$(CURDIR)/$(OUT)/python"
+
 # The tests of the package as the wheel has it, with files of the tool: see tools/check_python.sh.
 check-python: export HUNKRAVY_TOOL = $(CURDIR)/$(TOOL)
-check-python: python-package $(TOOL)
+check-python: check-types $(TOOL)
 	tools/check_python.sh "$(CURDIR)/$(OUT)/python" "$(CURDIR)/$(OUT)/both/libhunkravy.a"

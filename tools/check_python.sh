@@ -1,7 +1,7 @@
 #!/bin/bash
 # check_python.sh FOLDER LIBRARY: the tests of the Python package that lies unpacked in a folder, which run the samples
-# of its pages and its example too; the same tests of a native module over the library with gcc's sanitizers; what the
-# module exports and needs; and the types of the package and of its tests.
+# of its pages and its example too; the same tests of a native module over the library with gcc's sanitizers; and what
+# the module exports and needs.
 set -euo pipefail
 folder=$1 library=$2
 cd "$(dirname "$0")/../python"
@@ -29,10 +29,7 @@ names=$(nm -D --defined-only "$module" | awk '{ print $3 }')
 [ "$names" = PyInit__native ] || fail "the native module exports $names"
 if nm -D --undefined-only "$module" | grep hunkravy; then fail 'the native module needs a library'; fi
 
-# It is compiled for the stable interface of the version that its wheel names, and what is bound at load time is not writable.
-headers=$(python3 -c 'import sysconfig; print(sysconfig.get_path("include"))')
-gcc -E -dM -I../c/include "-I$headers" native/native.c | grep '^#define Py_LIMITED_API 0x030B0000$' > /dev/null ||
-    fail 'the native module is compiled for another interface than that of Python 3.11'
+# What is bound at load time is not writable.
 readelf -d "$module" | grep -q -w NOW && readelf -lW "$module" | grep -q GNU_RELRO ||
     fail 'the native module is not bound when it is loaded'
 
@@ -69,19 +66,9 @@ else
     echo 'left out: the native module with sanitizers, which gcc does not have'
 fi
 
+headers=$(python3 -c 'import sysconfig; print(sysconfig.get_path("include"))')
 if command -v clang > /dev/null; then
     clang --analyze --analyzer-output text -Xclang -analyzer-werror -std=c11 -I../c/include "-I$headers" native/*.c
 else
     echo 'left out: the native module by the analyzer of clang, which is not installed'
-fi
-
-# Of the package as sources: as an installed one, which PYTHONPATH would make of it, it is not checked.
-if command -v mypy > /dev/null; then
-    (cd "$folder" && env -u PYTHONPATH mypy --strict --cache-dir=/dev/null -p hunkravy)
-    (cd tests && env -u PYTHONPATH MYPYPATH="$folder" mypy --strict --cache-dir=/dev/null ./*.py ../examples/*.py)
-    # A name of the standard library that mypy's own description of it gets wrong.
-    (cd "$folder" && PYTHONPATH=. stubtest --concise hunkravy --ignore-unused-allowlist \
-        --allowlist <(echo 'hunkravy\._files\.BinaryIO\.write'))
-else
-    echo 'left out: the types of the Python package by mypy, which is not installed'
 fi

@@ -10,7 +10,12 @@ from ._variants import Variant
 
 LEVEL: Final[int]
 
+PREFIX_BYTES: Final[int]
+HEAD_BYTES: Final[int]
+RECORD_BYTES: Final[int]
+
 def forks() -> int: ...
+def record_length(head: Buffer, /) -> int: ...
 
 class InvalidTag(Exception): ...
 

@@ -249,7 +249,8 @@ class Files(unittest.TestCase):
             def __del__(self) -> None:
                 self.made = Seeker()
 
-        Batch, sought = _native.Batch, []
+        Batch: Any = _native.Batch
+        sought: list[None] = []
         gc.collect()
         with RandomAccessFile.create(self.path, KEY) as file:
             batch, maker = file.batch(), Maker()
@@ -448,7 +449,7 @@ class Files(unittest.TestCase):
         for size in (8 << 20, 9 << 20):
             file = RandomAccessFile(self.path, KEY, check_same_thread=False)
             file.write_at(0, bytes(size))
-            second = file if size == 8 << 20 else file.open_stream()
+            second: Any = file if size == 8 << 20 else file.open_stream()
             with concurrent.futures.ThreadPoolExecutor(1) as other:
                 closed = other.submit(file.close)
                 while not file.closed:
@@ -523,6 +524,8 @@ class Files(unittest.TestCase):
                 RandomAccessFile.create(self.path, KEY, cipher=cipher)
             with self.assertRaises((TypeError, ValueError, OverflowError), msg=str(variant)):
                 _native.Cipher(variant, KEY, 32)
+        for other in (None, 3, "Aegis256", object):
+            self.assertRaises(TypeError, RandomAccessFile.create, self.path, KEY, cipher=other)
         self.assertEqual(os.listdir(self.folder), [])
         for size in (256, 65_536):
             RandomAccessFile.create(self.folder / str(size), KEY, page_size=size).close()
