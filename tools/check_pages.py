@@ -77,15 +77,20 @@ def make_targets():
     return "|".join(re.escape(name).replace("%", ".+") for name in names)
 
 
+# A run of make, and the words after it.
+MAKE = r"(?:[A-Z_]+=\S+ )*make((?: -\w+| [A-Z_]+=[^\s`]+| [a-z][\w+/.-]*)+)"
+
+
 def strange_words():
     """Yields each command, target and function that a page calls and that is not there."""
     commands = re.search("words='(keygen [a-z ]*)'", read(ROOT / "crates/hunkravy/manual/bash"))[1].replace(" ", "|")
     # `hunkravy v1` is the context of sealed files.
-    known = (rf"hunkravy ({commands}|--\w+|v1)", rf"make ({make_targets()}|[A-Z]+=\S+)")
+    known = (rf"hunkravy ({commands}|--\w+|v1)", rf"make ({make_targets()}|out/\S+)")
     for page in PAGES:
         shell = "".join(sample for language, sample in SAMPLE.findall(read(page)) if language == "sh")
-        words = re.findall(r"^(?:\S*/)?(hunkravy \S+|make [\w+][\w+-]*)", shell, re.M)
-        words += re.findall(r"`(hunkravy [\w-]+|make [\w+][\w+-]*)(?: [^`]*)?`", read(page))
+        words = re.findall(r"^(?:\S*/)?(hunkravy \S+)", shell, re.M) + re.findall(r"`(hunkravy [\w-]+)(?: [^`]*)?`", read(page))
+        made = re.findall(rf"(?:^|&& |; |\(){MAKE}", shell, re.M) + re.findall(rf"`{MAKE}", read(page))
+        words += [f"make {word}" for targets in made for word in targets.split() if word[0].islower()]
         yield from (f"{page}: there is no {word}" for word in words if not any(re.fullmatch(each, word) for each in known))
     raf = joined(ROOT.glob("rust/src/raf/*.rs"))
     for language, sample in SAMPLE.findall(read(ROOT / "docs/RANDOM-ACCESS.md")):

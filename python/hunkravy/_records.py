@@ -55,7 +55,7 @@ def stream_of(key: _ReadableBuffer, prefix: _ReadableBuffer, context: _ReadableB
 
 def length_of_record(head: bytes, fault: Callable[[str], Exception]) -> int:
     """Returns the length of a record from its head, which is not verified, or raises the fault with its cause."""
-    length = _native.record_length(head[:HEAD_BYTES].ljust(HEAD_BYTES, b"\0"))
+    length = _native.record_length(bytes(head[:HEAD_BYTES].ljust(HEAD_BYTES, b"\0")))
     if length < 0:
         raise fault("flag" if head[0] > 1 else "too_long")
     if len(head) < HEAD_BYTES:

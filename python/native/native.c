@@ -642,39 +642,22 @@ static PyObject *count_of_forks(PyObject *module, PyObject *none)
 }
 
 /* Returns the length of a record with this head, in any stream, or a code. It is not verified. */
-static PyObject *record_length(PyObject *module, PyObject *given)
+static PyObject *record_length(PyObject *module, PyObject *head)
 {
     static const uint8_t no_key[HUNKRAVY_RECORD_KEY_BYTES];
     hunkravy_record_stream stream;
-    Py_buffer head;
     size_t length = 0;
-    int code = HUNKRAVY_WRONG_RECORD_LENGTH;
+    int code = hunkravy_record_begin_open_at(&stream, no_key, no_key, NULL, 0, 0, 0);
     (void)module;
-    if (!PyArg_ParseTuple(given, "y*", &head)) {
-        return NULL;
+    if (PyBytes_Size(head) != HUNKRAVY_RECORD_HEAD_BYTES) {
+        return PyErr_Occurred() ? NULL : PyLong_FromLong(HUNKRAVY_WRONG_RECORD_LENGTH);
     }
-    if (head.len == HUNKRAVY_RECORD_HEAD_BYTES) {
-        code = hunkravy_record_begin_open_at(&stream, no_key, no_key, NULL, 0, 0, 0);
-        code = code == HUNKRAVY_OK ? hunkravy_record_len(&stream, head.buf, &length) : code;
-    }
-    PyBuffer_Release(&head);
+    code = code == HUNKRAVY_OK ? hunkravy_record_len(&stream, (uint8_t *)PyBytes_AsString(head), &length) : code;
     return PyLong_FromLong(code == HUNKRAVY_OK ? (long)length : code);
 }
 
-static PyMethodDef functions[] = {
-    {"forks", count_of_forks, METH_NOARGS, NULL},
-    {"record_length", record_length, METH_VARARGS, NULL},
-    {NULL, NULL, 0, NULL},
-};
-
-static const struct {
-    const char *name;
-    long value;
-} CONSTANTS[] = {
-    {"PREFIX_BYTES", HUNKRAVY_RECORD_PREFIX_BYTES},
-    {"HEAD_BYTES", HUNKRAVY_RECORD_HEAD_BYTES},
-    {"RECORD_BYTES", HUNKRAVY_RECORD_BYTES},
-};
+static PyMethodDef functions[] = {{"forks", count_of_forks, METH_NOARGS, NULL},
+    {"record_length", record_length, METH_O, NULL}, {NULL, NULL, 0, NULL}};
 
 static PyType_Slot cipher_slots[] = {
     {Py_tp_new, SLOT(cipher_new)}, {Py_tp_dealloc, SLOT(cipher_free)}, {Py_tp_methods, cipher_methods}, {0, NULL}};
@@ -708,9 +691,9 @@ static int execute(PyObject *object)
         "hunkravy.InvalidTag", "The tag is not that of the message, or the MAC is not that of the input.", NULL, NULL);
     int result = PyModule_AddObjectRef(object, "InvalidTag", module->invalid_tag);
     result = result < 0 ? result : PyModule_AddIntConstant(object, "LEVEL", hunkravy_level());
-    for (size_t i = 0; result == 0 && i < sizeof CONSTANTS / sizeof CONSTANTS[0]; i++) {
-        result = PyModule_AddIntConstant(object, CONSTANTS[i].name, CONSTANTS[i].value);
-    }
+    result = result < 0 ? result : PyModule_AddIntConstant(object, "PREFIX_BYTES", HUNKRAVY_RECORD_PREFIX_BYTES);
+    result = result < 0 ? result : PyModule_AddIntConstant(object, "HEAD_BYTES", HUNKRAVY_RECORD_HEAD_BYTES);
+    result = result < 0 ? result : PyModule_AddIntConstant(object, "RECORD_BYTES", HUNKRAVY_RECORD_BYTES);
     PyType_Spec *all[] = {&specs[0], &specs[1], &specs[2], &file_spec, &batch_spec};
     for (size_t i = 0; result == 0 && i < sizeof all / sizeof all[0]; i++) {
         PyObject *type = PyType_FromModuleAndSpec(object, all[i], NULL);
