@@ -77,7 +77,7 @@ header_of page_bytes id counter len = record { page_bytes = page_bytes; id = id;
 -- The call finds the position of a page in every file of this variant and page size; or it changes nothing.
 pub record PagePlace (variant : Option Variant) (page_bytes number place place' : ℕ) (code : ℤ) : Type 0 where
   pub answered : code ≡ page_place_code variant page_bytes number
-  pub found : code ≡ success → (key id : List ℕ) → place' ≡ page_place (file_of (the variant) key id page_bytes) number
+  pub found : code ≡ success → (file : Layout) → file.variant ≡ the variant → file.page_bytes ≡ page_bytes → place' ≡ page_place file number
   pub kept : code ≢ success → place' ≡ place
 
 -- The call seals the contents in `page` where they lie, and the page then opens to it at its number; or it changes
