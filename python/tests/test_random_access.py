@@ -538,6 +538,7 @@ class Files(unittest.TestCase):
             stream = file.open_stream()
             with contextlib.suppress(ZeroDivisionError), file.batch():
                 stream.write(b"lost")
+                stream.flush()
                 1 / 0
             self.assertEqual((stream.tell(), file.size), (4, 3))
 
