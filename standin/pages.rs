@@ -86,9 +86,7 @@ exports! {
 fn hunkravy_proved_page_place(v: u32, page_size: u32, number: u64, place: *mut u64) {
     let bytes = page_size as usize + key_bytes(v) + TAG_BYTES;
     check_key(v, key_bytes(v))?;
-    check_page(v, bytes, number)?;
-    *place = 4096 + number * bytes as u64;
-    Ok(())
+    check_page(v, bytes, number).map(|_| *place = 4096 + number * bytes as u64)
 }
 
 fn hunkravy_proved_page_seal(

@@ -22,7 +22,7 @@ import time
 import unittest
 import zipfile
 from collections.abc import Callable, Generator
-from typing import Any, Optional
+from typing import Any, Optional, cast
 from unittest import mock
 
 from hunkravy import Aegis128L, Aegis256, RandomAccessError, RandomAccessFile, _native, _random_access
@@ -249,8 +249,7 @@ class Files(unittest.TestCase):
             def __del__(self) -> None:
                 self.made = Seeker()
 
-        Batch: Any = _native.Batch
-        sought: list[None] = []
+        Batch, sought = cast(Any, _native.Batch), cast(list[None], [])
         gc.collect()
         with RandomAccessFile.create(self.path, KEY) as file:
             batch, maker = file.batch(), Maker()

@@ -49,7 +49,6 @@ mod error;
 mod io;
 mod journal;
 mod layout;
-mod probe;
 mod recovery;
 mod rng;
 mod system;
@@ -62,7 +61,7 @@ pub use cursor::RafCursor;
 pub use derive::derive_key;
 pub use error::{Error, Result};
 pub use io::{Beside, FileIo, JournalChoice, JournalFile, NoJournal, RafIo};
-pub use probe::{AlgorithmId, RafInfo, probe};
+pub use layout::{AlgorithmId, RafInfo, probe};
 #[cfg(not(feature = "raf"))]
 pub use rng::NoRng;
 #[cfg(feature = "raf")]
