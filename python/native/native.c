@@ -10,15 +10,11 @@
 
 #include <pthread.h>
 
-#include "hunkravy.h"
 #include "hunkravy_records.h"
 
 /* The longest keys and nonces, and the longest tags. */
 #define MOST_KEY_BYTES HUNKRAVY_AEGIS256_KEY_BYTES
 #define MOST_TAG_BYTES HUNKRAVY_LONG_TAG_BYTES
-
-/* Work on fewer bytes takes less time than releasing the interpreter's lock may cost. */
-#define RELEASE_FROM 4096
 
 /* ---- What the types share */
 
@@ -35,69 +31,6 @@ static void *result_of(void *object, int code, void *result)
     const Module *module = PyType_GetModuleState(Py_TYPE(object));
     PyErr_SetString(code == HUNKRAVY_INVALID_TAG ? module->invalid_tag : PyExc_ValueError, hunkravy_error_text(code));
     return NULL;
-}
-
-/* Returns whether a length is right. If it is not, sets an exception. */
-static bool has_length(const char *name, Py_ssize_t found, size_t length)
-{
-    if ((size_t)found != length) {
-        PyErr_Format(PyExc_ValueError, "%s must have %zu bytes, not %zd", name, length, found);
-    }
-    return (size_t)found == length;
-}
-
-/* Copies bytes, of which there may be none, at a null pointer. The places may overlap. */
-static void copy(uint8_t *to, const void *from, size_t length)
-{
-    if (length != 0) {
-        memmove(to, from, length);
-    }
-}
-
-/* Releases the interpreter's lock if work on so many bytes is long enough. Returns what `end_work` needs. */
-static PyThreadState *begin_work(size_t length)
-{
-    return length < RELEASE_FROM ? NULL : PyEval_SaveThread();
-}
-
-static void end_work(PyThreadState *released)
-{
-    if (released != NULL) {
-        PyEval_RestoreThread(released);
-    }
-}
-
-/*
- * The same with the lock of an object. If it has to wait for that, the interpreter's lock is released in any case. A thread
- * that has an object's lock never waits for the interpreter's: once the interpreter ends, it would have both forever.
- */
-static PyThreadState *lock(void *object, size_t length)
-{
-    PyThread_type_lock own = ((Locked *)object)->lock;
-    if (PyThread_acquire_lock(own, NOWAIT_LOCK)) {
-        return begin_work(length);
-    }
-    PyThreadState *released = PyEval_SaveThread();
-    PyThread_acquire_lock(own, WAIT_LOCK);
-    return released;
-}
-
-static void unlock(void *object, PyThreadState *released)
-{
-    PyThread_release_lock(((Locked *)object)->lock);
-    end_work(released);
-}
-
-/* Overwrites and frees an object of so many bytes. */
-static void free_object(PyObject *object, size_t length)
-{
-    PyTypeObject *type = Py_TYPE(object);
-    if (((Locked *)object)->lock != NULL) {
-        PyThread_free_lock(((Locked *)object)->lock);
-    }
-    hunkravy_wipe((uint8_t *)object + sizeof(PyObject), length - sizeof(PyObject));
-    PyObject_Free(object);
-    Py_DECREF(type);
 }
 
 /* ---- A message in chunks, or a MAC. The library knows which, and returns an error for the functions of another. */
