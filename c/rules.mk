@@ -182,7 +182,7 @@ check-sanitized: $(OUT)/$(SANITIZED_LEVEL)/aegis_c.a
 # Each library is built again once a file of each folder that it is made of is newer, and the shared one once its rule is.
 check-rebuilt: $(OUT)/both/libhunkravy.a $(OUT)/both/$(SONAME)
 	$(MAKE) -q $^
-	for file in c/levels/join.sh c/levels/level.h c/library/calls.c c/include/hunkravy.h; do \
+	for file in c/levels/join.sh c/levels/level.h c/library/messages.c c/include/hunkravy.h; do \
 		for library in $^; do ! $(MAKE) -q -W $$file $$library || exit 1; done; \
 	done
 	! $(MAKE) -q -W c/rules.mk $(lastword $^)

@@ -51,7 +51,7 @@ sections() {
 }
 
 mkdir "$work/calls"
-for file in calls records pages; do
+for file in messages records pages; do
     compile -c "$here/../library/$file.c" -o "$work/calls/$file.o"
 done
 compile -c "$here/../library/common.c" -o "$work/common.o"

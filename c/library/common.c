@@ -35,7 +35,7 @@ static const char *const TEXTS[] = {
 
 const char *hunkravy_error_text(int code)
 {
-    return code > 0 || code <= -(int)(sizeof TEXTS / sizeof TEXTS[0]) ? "unknown error code" : TEXTS[-code];
+    return code > HUNKRAVY_OK || code < HUNKRAVY_OPEN_BATCH ? "unknown error code" : TEXTS[-code];
 }
 
 void hunkravy_wipe(void *bytes, size_t length)
