@@ -638,7 +638,3 @@ class Files(unittest.TestCase):
         with RandomAccessFile.create(self.path, KEY) as file:
             for each in (file, file.open_stream()):
                 self.assertRaises(TypeError, copy.copy, each)
-
-
-if __name__ == "__main__":
-    unittest.main()

@@ -113,7 +113,3 @@ class Streams(unittest.TestCase):
                 except RecordError:
                     pass
         self.assertEqual(numbers, set(range(50)))
-
-
-if __name__ == "__main__":
-    unittest.main()

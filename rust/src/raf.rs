@@ -46,6 +46,7 @@ mod derive;
 #[cfg_attr(c_engine, path = "../tests/c_engine/engine.rs")]
 mod engine;
 mod error;
+mod file;
 mod io;
 mod journal;
 mod layout;
@@ -60,7 +61,8 @@ pub use builder::RafBuilder;
 pub use cursor::RafCursor;
 pub use derive::derive_key;
 pub use error::{Error, Result};
-pub use io::{Beside, FileIo, JournalChoice, JournalFile, NoJournal, RafIo};
+pub use file::{Beside, FileIo, JournalFile};
+pub use io::{JournalChoice, NoJournal, RafIo};
 pub use layout::{AlgorithmId, RafInfo, probe};
 #[cfg(not(feature = "raf"))]
 pub use rng::NoRng;
