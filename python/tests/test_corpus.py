@@ -5,7 +5,7 @@ import pathlib
 import re
 import tempfile
 import unittest
-from typing import Any, Callable, Iterator, cast
+from typing import Callable, Iterator
 
 import vectors
 from hunkravy import RandomAccessError, RandomAccessFile, RecordError, RecordOpener, SealedFileError, SealedReader
@@ -39,7 +39,8 @@ def opened_records(case: Case) -> list[bytes] | str:
     try:
         return read(opener, file)
     except RecordError as error:
-        for call in cast(Any, [lambda: opener.open(bytes(37)), lambda: opener.record_length(bytes(5)), opener.finish]):
+        calls: list[Callable[[], object]] = [lambda: opener.open(bytes(37)), lambda: opener.record_length(bytes(5)), opener.finish]
+        for call in calls:
             with unittest.TestCase().assertRaises(RecordError) as again:
                 call()
             assert again.exception.args == error.args, "it stays"

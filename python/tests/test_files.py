@@ -302,7 +302,8 @@ class Writing(unittest.TestCase):
         begun = file.getvalue()
         # Both processes may be the first of a container, and another library may fork.
         with mock.patch("os.getpid", return_value=os.getpid()):
-            for fork in (os.fork, cast(Any, ctypes.PyDLL(None).fork)):
+            forks: list[Any] = [os.fork, ctypes.PyDLL(None).fork]
+            for fork in forks:
                 self.assertTrue(returns_in_a_fork(use, fork))
         text.close()
         self.assertEqual(SealedReader(io.BytesIO(file.getvalue()), KEY).read(), b"contents")

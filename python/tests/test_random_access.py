@@ -22,7 +22,7 @@ import time
 import unittest
 import zipfile
 from collections.abc import Callable, Generator
-from typing import Any, Optional, cast
+from typing import Any, Optional
 from unittest import mock
 
 from hunkravy import Aegis128L, Aegis256, RandomAccessError, RandomAccessFile, _native, _random_access
@@ -243,13 +243,15 @@ class Files(unittest.TestCase):
 
         class Seeker:
             def __del__(self) -> None:
-                sought.extend(found.__exit__(None, None, None) for found in gc.get_objects() if type(found) is Batch)
+                batches: list[Any] = [found for found in gc.get_objects() if type(found) is Batch]
+                sought.extend(found.__exit__(None, None, None) for found in batches)
 
         class Maker:
             def __del__(self) -> None:
                 self.made = Seeker()
 
-        Batch, sought = cast(Any, _native.Batch), cast(list[None], [])
+        Batch = _native.Batch
+        sought: list[None] = []
         gc.collect()
         with RandomAccessFile.create(self.path, KEY) as file:
             batch, maker = file.batch(), Maker()

@@ -4,7 +4,7 @@ import array
 import concurrent.futures
 import io
 import unittest
-from typing import Any, Callable, cast
+from typing import Any, Callable
 from unittest import mock
 
 from hunkravy import RecordError, RecordOpener, RecordSealer
@@ -71,7 +71,8 @@ class Streams(unittest.TestCase):
         before, records = opener.position, opener._records
         opener._records = mock.Mock(open=interrupted)
         self.assertRaises(KeyError, opener.open, first)
-        for call in cast(Any, [lambda: opener.open(last), opener.finish, lambda: opener.record_length(bytes(5))]):
+        calls: list[Callable[[], object]] = [lambda: opener.open(last), opener.finish, lambda: opener.record_length(bytes(5))]
+        for call in calls:
             self.assertRaisesRegex(RuntimeError, "while a record was opened", call)
         self.assertEqual(RecordOpener.at(KEY, PREFIX, CONTEXT, *before).open(first), b"one")
 
