@@ -624,9 +624,6 @@ static int execute(PyObject *object)
         "hunkravy.InvalidTag", "The tag is not that of the message, or the MAC is not that of the input.", NULL, NULL);
     int result = PyModule_AddObjectRef(object, "InvalidTag", module->invalid_tag);
     result = result < 0 ? result : PyModule_AddIntConstant(object, "LEVEL", hunkravy_level());
-    result = result < 0 ? result : PyModule_AddIntConstant(object, "PREFIX_BYTES", HUNKRAVY_RECORD_PREFIX_BYTES);
-    result = result < 0 ? result : PyModule_AddIntConstant(object, "HEAD_BYTES", HUNKRAVY_RECORD_HEAD_BYTES);
-    result = result < 0 ? result : PyModule_AddIntConstant(object, "RECORD_BYTES", HUNKRAVY_RECORD_BYTES);
     PyType_Spec *all[] = {&specs[0], &specs[1], &specs[2], &file_spec, &batch_spec};
     for (size_t i = 0; result == 0 && i < sizeof all / sizeof all[0]; i++) {
         PyObject *type = PyType_FromModuleAndSpec(object, all[i], NULL);
@@ -639,6 +636,9 @@ static int execute(PyObject *object)
             Py_XDECREF(type);
         }
     }
+    result = result < 0 ? result : PyModule_AddIntConstant(object, "PREFIX_BYTES", HUNKRAVY_RECORD_PREFIX_BYTES);
+    result = result < 0 ? result : PyModule_AddIntConstant(object, "HEAD_BYTES", HUNKRAVY_RECORD_HEAD_BYTES);
+    result = result < 0 ? result : PyModule_AddIntConstant(object, "RECORD_BYTES", HUNKRAVY_RECORD_BYTES);
     return result;
 }
 
