@@ -81,13 +81,14 @@ quick: check-pages
 		echo 'left out: the line program and the tests of the round, since rt is not installed'; \
 	fi
 
+# The library is a goal, so what was made of an earlier stand-in is made again: make passes over a secondary file that is gone.
 quick-over-the-stand-in: | $(OUT)
 	standin/build.sh $(OUT)
 	rm -f $(OUT)/*/libhunkravy.*
-	$(MAKE) --jobs=2 --output-sync OUT=$(OUT) $(STANDIN:%=-o %) $(OVER_STANDIN)
+	$(MAKE) --jobs=2 --output-sync OUT=$(OUT) $(STANDIN:%=-o %) $(OUT)/both/libhunkravy.a $(OVER_STANDIN)
 
 STANDIN = $(OUT)/x86-64-v2/aegis_c.a $(OUT)/x86-64-v3/aegis_c.a
-OVER_STANDIN = check-header check-abi check-c-both check-rust-both test-python check-corpus check-disk fuzz
+OVER_STANDIN = check-header check-abi check-c-both check-c++ check-rust-both test-python check-types check-corpus check-disk fuzz
 
 # Whether the stand-in passes the tests of each C header, with the stored answers, as the proved library does in check-c.
 check-standin:

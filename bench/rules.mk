@@ -1,11 +1,11 @@
 # The measurements, which write the tables of bench/.
-.PHONY: bench bench-peers bench-tool bench-random-access bench-python check-bench
+.PHONY: bench bench-peers bench-buffers bench-tool bench-random-access bench-python check-bench
 
 # One level is measured, x86-64-v2 unless CPU gives another.
 BENCH_CPU = $(or $(CPU),x86-64-v2)
 BENCH_FOLDER = $(if $(filter x86-64-v2,$(BENCH_CPU)),bench,bench/$(BENCH_CPU))
 
-bench: bench-peers bench-tool bench-random-access bench-python
+bench: bench-peers bench-buffers bench-tool bench-random-access bench-python
 
 # $(call write,PAGE): a program's output becomes the table of a page, whose text stays.
 write = python3 bench/table.py $(1)
@@ -15,6 +15,10 @@ bench-peers: $(OUT)/$(BENCH_CPU)/libhunkravy.a
 	$(CC) -std=c11 -O2 $(C_FLAGS) bench/peers.c $< $$(pkg-config --cflags --libs libsodium) -o $(OUT)/$(BENCH_CPU)/peers
 	$(OUT)/$(BENCH_CPU)/peers | $(call write,$(BENCH_FOLDER)/PEERS.md)
 	/usr/bin/python3 bench/chart.py bench/x86-64-v3/PEERS.md bench/x86-64-v3/peers.svg
+
+# Encryption in place and to another buffer, at each level that this machine has.
+bench-buffers: $(RUNNABLE:%=$(OUT)/%/buffers)
+	for program in $^; do $$program || exit 1; done | $(call write,bench/BUFFERS.md)
 
 # Random-access files of the Cargo package, beside a plain file and encryption in memory.
 RANDOM_ACCESS = $(OUT)/$(1)/cargo/release/random-access
@@ -35,6 +39,9 @@ bench-tool: $(RUNNABLE:%=$(OUT)/%/pieces) $(RUNNABLE:%=$(OUT)/%/hunkravy)
 	for level in $(RUNNABLE); do \
 		bench/tool.sh $$level $(OUT)/$$level/hunkravy $(OUT)/$$level/pieces || exit 1; \
 	done | $(call write,bench/TOOL.md)
+
+$(OUT)/%/buffers: bench/buffers.c $(OUT)/%/libhunkravy.a
+	$(CC) -std=c11 -O2 $(C_FLAGS) $^ -o $@
 
 $(OUT)/%/pieces: bench/pieces.c $(OUT)/%/libhunkravy.a
 	$(CC) -std=c11 -O2 $(C_FLAGS) $^ -o $@

@@ -1,5 +1,5 @@
 # The C library, for Linux, and its tests. What follows builds with stock gcc, and proves nothing but that library.
-.PHONY: c-library c-libraries install check-c check-header check-c++ check-sanitized check-rebuilt check-shared \
+.PHONY: c-library c-libraries install check-c check-header check-c++ check-sanitized check-rebuilt check-shared check-manual \
 	check-level check-sodium check-musl check-abi abi check-time check-install gcc-aarch64-linux-gnu qemu-user
 
 CC = gcc
@@ -53,8 +53,7 @@ SONAME = libhunkravy.so.0
 $(OUT)/%/$(SONAME): $(OUT)/%/libhunkravy.a $(OWN_HEADERS:%=c/include/%) c/library/journal.h c/rules.mk
 	(echo 'HUNKRAVY_0 { global:'; $(EXPORTS) | sed 's/$$/;/'; echo 'local: *; };'; \
 		echo 'HUNKRAVY_PRIVATE { global:'; $(PRIVATE) | sed 's/$$/;/'; echo '};') > $(@D)/exports.map
-	cp $< $(@D)/shared.a && $(TOOLS_$*)ar d $(@D)/shared.a checked.o
-	$(TOOLS_$*)$(CC) -shared -s -Wl,-soname,$(SONAME),--version-script=$(@D)/exports.map,-z,defs,-z,relro,-z,now \
+	$(TOOLS_$*)$(CC) -shared -Wl,-soname,$(SONAME),--version-script=$(@D)/exports.map,-z,defs,-z,relro,-z,now \
 		-Wl,--whole-archive $(@D)/shared.a -Wl,--no-whole-archive -o $@
 
 # The levels are built in one folder, so one after the other.
@@ -76,6 +75,10 @@ gcc-aarch64-linux-gnu qemu-user:
 	@command -v $(PROGRAM) > /dev/null || \
 		{ echo '$(PROGRAM) is not installed: TARGET=$(ARM) needs the package $@' >&2; exit 1; }
 
+# Its manual page.
+$(OUT)/hunkravy.3: c/manual.awk $(OWN_HEADERS:%=c/include/%) VERSION | $(OUT)
+	awk -v version=$(VERSION) -f $< $(OWN_HEADERS:%=c/include/%) > $@
+
 # ---- Its tests
 
 # Its headers, and over the library with both levels and over each level alone the examples, every call of each header,
@@ -92,7 +95,7 @@ check-sanitized: export ASAN_OPTIONS = detect_leaks=$(if $(filter aarch64,$(FOLD
 CLANG = $(shell command -v clang)
 STANDARDS = c99 c11 c17 c2x $(if $(shell command -v g++),c++11 c++14 c++17 c++20)
 
-check-header:
+check-header: check-manual
 	$(if $(findstring c++,$(STANDARDS)),,echo 'left out: the headers as C++, since g++ is not installed')
 	for header in $(HEADERS); do for compiler in $(CC) $(CLANG); do \
 		for standard in $(STANDARDS); do \
@@ -125,7 +128,7 @@ check-header:
 			echo "#include \"$$header\"" | $(CLANG) -std=c99 $(C_FLAGS) -Weverything -fsyntax-only -x c - || exit 1; \
 		done; \
 		for file in c/library/*.c c/file/*.c; do \
-			$(CLANG) -std=c99 $(C_FLAGS) -Ic/library -Weverything -fsyntax-only $$file || exit 1; \
+			$(CLANG) -std=c99 $(C_FLAGS) -Ic/library -Weverything -Wno-declaration-after-statement -fsyntax-only $$file || exit 1; \
 		done; \
 	else \
 		echo 'left out: the headers by clang, which is not installed'; \
@@ -139,6 +142,15 @@ check-header:
 		shellcheck -S warning $$(git ls-files '*.sh'); \
 	else \
 		echo 'left out: the shell programs by shellcheck, which is not installed'; \
+	fi
+
+# The manual page has each function of the headers as a line of its own, and mandoc reads it.
+check-manual: $(OUT)/hunkravy.3
+	diff <($(EXPORTS) | sort) <($(NAMES) $< | sort)
+	if command -v mandoc > /dev/null; then \
+		mandoc -T lint -W error $<; \
+	else \
+		echo 'left out: the manual page by mandoc, which is not installed'; \
 	fi
 
 # The C programs: the examples, and the tests but those with a rule of their own. They read the stored lines.
@@ -182,7 +194,7 @@ check-sanitized: $(OUT)/$(SANITIZED_LEVEL)/aegis_c.a
 # Each library is built again once a file of each folder that it is made of is newer, and the shared one once its rule is.
 check-rebuilt: $(OUT)/both/libhunkravy.a $(OUT)/both/$(SONAME)
 	$(MAKE) -q $^
-	for file in c/levels/join.sh c/levels/level.h c/library/calls.c c/include/hunkravy.h; do \
+	for file in c/levels/join.sh c/levels/level.h c/library/messages.c c/include/hunkravy.h; do \
 		for library in $^; do ! $(MAKE) -q -W $$file $$library || exit 1; done; \
 	done
 	! $(MAKE) -q -W c/rules.mk $(lastword $^)
@@ -249,7 +261,7 @@ check-sodium: $(OUT)/both/libhunkravy.a
 
 # ---- Installing
 
-# Installs the headers, the libraries, the examples, and the files that pkg-config and CMake read, which find the others from
+# Installs the headers, the libraries, the examples, the manual page, and the files that pkg-config and CMake read, which find the others from
 # where they lie themselves. In /usr pkg-config's file names the folders, so that no option is printed for those of the system.
 EXAMPLES_FOLDER = $(PREFIX)/share/doc/hunkravy/examples
 LIBRARIES = $(PREFIX)/lib
@@ -258,7 +270,7 @@ SHARED = $(OUT)/$(FOLDER)/$(SONAME)
 PC_PREFIX = $(if $(filter /usr,$(PREFIX)),/usr,$${pcfiledir}/@RELATIVE@)
 PC_LIBRARIES = $(if $(filter /usr,$(PREFIX)),$(LIBRARIES),$${pcfiledir}/..)
 
-install: $(LIBRARY) $(SHARED)
+install: $(LIBRARY) $(SHARED) $(OUT)/hunkravy.3
 	install -d "$(DESTDIR)$(PREFIX)/include" "$(DESTDIR)$(LIBRARIES)/pkgconfig" "$(DESTDIR)$(EXAMPLES_FOLDER)"
 	install -m 644 $(HEADERS:%=c/include/%) "$(DESTDIR)$(PREFIX)/include"
 	install -m 644 $(LIBRARY) "$(DESTDIR)$(LIBRARIES)"
@@ -266,6 +278,7 @@ install: $(LIBRARY) $(SHARED)
 	ln -sf libhunkravy.so.$(VERSION) "$(DESTDIR)$(LIBRARIES)/$(SONAME)"
 	ln -sf $(SONAME) "$(DESTDIR)$(LIBRARIES)/libhunkravy.so"
 	install -m 644 $(C_EXAMPLES:%=c/examples/%.c) "$(DESTDIR)$(EXAMPLES_FOLDER)"
+	install -D -m 644 $(OUT)/hunkravy.3 "$(DESTDIR)$(PREFIX)/share/man/man3/hunkravy.3"
 	prefix=$$(realpath -m --relative-to="$(DESTDIR)$(LIBRARIES)/pkgconfig" "$(DESTDIR)$(PREFIX)/") && \
 		sed -e 's|@PREFIX@|$(PC_PREFIX)|' -e 's|@LIBRARIES@|$(PC_LIBRARIES)|' -e 's|@VERSION@|$(VERSION)|' \
 			-e "s|@RELATIVE@|$$prefix|" c/include/hunkravy.pc.in \

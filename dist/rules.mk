@@ -1,10 +1,10 @@
 # What is released.
-.PHONY: dist check-dist
+.PHONY: dist check-dist sign
 
 # Writes the archives, the packages and their sums to out/dist. If the tools for ARM are there, its archive too.
 HAS_ARM = $(shell command -v aarch64-linux-gnu-gcc)
 
-dist: $(OUT)/both/libhunkravy.a $(OUT)/both/$(SONAME) $(OUT)/both/hunkravy $(WHEEL) \
+dist: $(OUT)/both/libhunkravy.a $(OUT)/both/$(SONAME) $(OUT)/both/hunkravy $(SDIST) $(WHEEL) \
 		$(if $(HAS_ARM),$(OUT)/aarch64/libhunkravy.a $(OUT)/aarch64/$(SONAME) $(WHEEL_aarch64))
 	tools/pack.sh $(VERSION) $(OUT)
 
@@ -12,3 +12,9 @@ dist: $(OUT)/both/libhunkravy.a $(OUT)/both/$(SONAME) $(OUT)/both/hunkravy $(WHE
 # what was packed with what a package has to have; and uses what was unpacked in an empty folder, with no kit.
 check-dist: dist
 	tools/check_dist.sh $(VERSION) $(OUT)
+
+# Signs the sums of what was packed, by the private key in the file KEY.
+sign:
+	ssh-keygen -y -f "$(KEY)" | sed 's/^/hunkravy /' > $(OUT)/dist/signers
+	rm -f $(OUT)/dist/SHA256SUMS.sig
+	ssh-keygen -q -Y sign -f "$(KEY)" -n hunkravy $(OUT)/dist/SHA256SUMS

@@ -16,6 +16,7 @@ pub const WRONG_PAGE_SIZE: i32 = -12;
 pub const FILE_TOO_LONG: i32 = -13;
 pub const WRONG_MESSAGE_LENGTH: i32 = -14;
 pub const WRONG_JOURNAL: i32 = -15;
+pub const NO_WRITE: i32 = -22;
 
 /// A call's result: the error is one of the codes.
 pub type Answer = Result<(), i32>;
@@ -23,6 +24,11 @@ pub type Answer = Result<(), i32>;
 /// The code of a result.
 pub fn code(answer: Answer) -> i32 {
     answer.err().unwrap_or(DONE)
+}
+
+/// The result of a code.
+pub fn result(code: i32) -> Answer {
+    check(code == DONE, code)
 }
 
 /// Returns an error unless something holds.

@@ -1,6 +1,6 @@
 //! The exports on the journal of a random-access file.
 
-use crate::code::{FILE_TOO_LONG, INVALID_TAG, WRONG_JOURNAL, WRONG_RECORD_LENGTH, check, check_key, key_bytes};
+use crate::code::{FILE_TOO_LONG, INVALID_TAG, NO_WRITE, WRONG_JOURNAL, check, check_key, key_bytes};
 use crate::message::{ENDED, Role, State};
 use crate::pages::{HEADER_BLOCK_BYTES, ID_BYTES, PLAINTEXT_BYTES, check_header, header_bytes, header_in, plaintext};
 use crate::slices::{In, Out, exports, input, output};
@@ -145,7 +145,7 @@ fn hunkravy_proved_journal_check(
 
 fn hunkravy_proved_journal_next(writes: In, len: usize, place: *mut u64, count: *mut usize) {
     let first = first_write(input(writes, len));
-    let (found, bytes, _) = first.ok_or(WRONG_RECORD_LENGTH)?;
+    let (found, bytes, _) = first.ok_or(NO_WRITE)?;
     *place = found;
     *count = bytes.len();
     Ok(())

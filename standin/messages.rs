@@ -1,7 +1,7 @@
-//! The exports on messages, keystreams and MACs.
+//! The exports on messages, keystreams and MACs. Those in place copy a buffer to itself.
 
 use crate::aegis::Aegis;
-use crate::code::{Answer, INVALID_TAG, WRONG_MESSAGE_LENGTH, check, check_keys, check_lengths, check_tag, key_bytes};
+use crate::code::{Answer, INVALID_TAG, WRONG_MESSAGE_LENGTH, check, check_keys, check_lengths, check_tag, result};
 use crate::message::{ENDED, Role, State, decrypt, encrypt};
 use crate::slices::{In, Out, exports, input, output};
 
@@ -17,6 +17,14 @@ fn mac_of(variant: u32, input: &[u8], nonce: &[u8], key: &[u8]) -> State {
     let mut state = State::begin(variant, Role::Mac, key, nonce);
     state.absorb(input);
     state
+}
+
+/// Copies bytes to another buffer, unless they are in it, or overlap it: the proved library borrows both.
+fn copy(from: In, to: Out, length: usize) {
+    if from.addr().abs_diff(to.addr()) >= length {
+        // SAFETY: C ensures that each has so many bytes.
+        unsafe { core::ptr::copy_nonoverlapping(from, to, length) }
+    }
 }
 
 fn xor_keystream(variant: u32, bytes: &mut [u8], nonce: &[u8], key: &[u8]) {
@@ -37,21 +45,37 @@ fn hunkravy_proved_check_lengths(v: u32, n: usize, k: usize, m: usize, ad: usize
     check_lengths(v, n, k, m, ad, tag)
 }
 
+fn hunkravy_proved_encrypt(
+    v: u32, m: In, mlen: usize, c: Out, clen: usize, ad: In, adlen: usize, n: In, nlen: usize, k: In, klen: usize,
+    mac: Out, maclen: usize
+) {
+    check_lengths(v, nlen, klen, mlen, adlen, maclen)?;
+    copy(m, c, mlen);
+    let (key, nonce, data) = (input(k, klen), input(n, nlen), input(ad, adlen));
+    encrypt(v, key, nonce, &[data], output(c, clen), output(mac, maclen));
+    Ok(())
+}
+
 fn hunkravy_proved_encrypt_in_place(
     v: u32, mc: Out, mclen: usize, ad: In, adlen: usize, n: In, nlen: usize, k: In, klen: usize, mac: Out, maclen: usize
 ) {
-    check_lengths(v, nlen, klen, mclen, adlen, maclen)?;
+    result(hunkravy_proved_encrypt(v, mc, mclen, mc, mclen, ad, adlen, n, nlen, k, klen, mac, maclen))
+}
+
+fn hunkravy_proved_decrypt(
+    v: u32, c: In, clen: usize, m: Out, mlen: usize, ad: In, adlen: usize, n: In, nlen: usize, k: In, klen: usize,
+    mac: In, maclen: usize
+) {
+    check_lengths(v, nlen, klen, clen, adlen, maclen)?;
+    copy(c, m, clen);
     let (key, nonce, data) = (input(k, klen), input(n, nlen), input(ad, adlen));
-    encrypt(v, key, nonce, &[data], output(mc, mclen), output(mac, maclen));
-    Ok(())
+    check(decrypt(v, key, nonce, &[data], output(m, mlen), input(mac, maclen)), INVALID_TAG)
 }
 
 fn hunkravy_proved_decrypt_in_place(
     v: u32, mc: Out, mclen: usize, ad: In, adlen: usize, n: In, nlen: usize, k: In, klen: usize, mac: In, maclen: usize
 ) {
-    check_lengths(v, nlen, klen, mclen, adlen, maclen)?;
-    let (key, nonce, data) = (input(k, klen), input(n, nlen), input(ad, adlen));
-    check(decrypt(v, key, nonce, &[data], output(mc, mclen), input(mac, maclen)), INVALID_TAG)
+    result(hunkravy_proved_decrypt(v, mc, mclen, mc, mclen, ad, adlen, n, nlen, k, klen, mac, maclen))
 }
 
 fn hunkravy_proved_stream(v: u32, out: Out, len: usize, n: In, nlen: usize, k: In, klen: usize) {
@@ -95,16 +119,26 @@ fn hunkravy_proved_state_may_decrypt(st: *const State, clen: usize) {
     (*st).check(&[Role::Message, Role::Decrypting], clen)
 }
 
+fn hunkravy_proved_state_encrypt(st: *mut State, m: In, mlen: usize, c: Out, clen: usize) {
+    result(hunkravy_proved_state_may_encrypt(st, mlen))?;
+    copy(m, c, mlen);
+    (*st).encrypt(output(c, clen));
+    Ok(())
+}
+
 fn hunkravy_proved_state_encrypt_in_place(st: *mut State, mc: Out, mclen: usize) {
-    (*st).check(&[Role::Message, Role::Encrypting], mclen)?;
-    (*st).encrypt(output(mc, mclen));
+    result(hunkravy_proved_state_encrypt(st, mc, mclen, mc, mclen))
+}
+
+fn hunkravy_proved_state_decrypt_unverified(st: *mut State, c: In, clen: usize, m: Out, mlen: usize) {
+    result(hunkravy_proved_state_may_decrypt(st, clen))?;
+    copy(c, m, clen);
+    (*st).decrypt(output(m, mlen));
     Ok(())
 }
 
 fn hunkravy_proved_state_decrypt_in_place_unverified(st: *mut State, mc: Out, mclen: usize) {
-    (*st).check(&[Role::Message, Role::Decrypting], mclen)?;
-    (*st).decrypt(output(mc, mclen));
-    Ok(())
+    result(hunkravy_proved_state_decrypt_unverified(st, mc, mclen, mc, mclen))
 }
 
 fn hunkravy_proved_state_decrypt_check(st: *mut State, c: In, clen: usize) {
@@ -163,5 +197,5 @@ fn hunkravy_proved_mac_final_verify(st: *const State, mac: In, maclen: usize) {
 /// The length of a key and of a nonce.
 #[unsafe(no_mangle)]
 pub extern "C" fn hunkravy_proved_key_bytes(v: u32) -> usize {
-    key_bytes(v)
+    crate::code::key_bytes(v)
 }

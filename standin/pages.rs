@@ -83,6 +83,12 @@ pub fn header_in(variant: u32, file: &[u8], key: &[u8]) -> Option<Header> {
 
 exports! {
 
+fn hunkravy_proved_page_place(v: u32, page_size: u32, number: u64, place: *mut u64) {
+    let bytes = page_size as usize + key_bytes(v) + TAG_BYTES;
+    check_key(v, key_bytes(v))?;
+    check_page(v, bytes, number).map(|_| *place = 4096 + number * bytes as u64)
+}
+
 fn hunkravy_proved_page_seal(
     v: u32, page: Out, len: usize, id: In, number: u64, n: In, nlen: usize, k: In, klen: usize
 ) {

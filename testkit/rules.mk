@@ -14,7 +14,7 @@ check-disk: $(DISK)/libdisk.so $(DISK_PROGRAMS)
 
 $(DISK)/libdisk.so: $(DISK_SOURCES)
 	mkdir -p $(@D)
-	$(CC) -std=c11 $(C_FLAGS) -O2 -fPIC -shared testkit/disk/disk.c testkit/disk/calls.c -o $@
+	$(CC) -std=c11 $(C_FLAGS) -O2 -fPIC -shared testkit/disk/disk.c testkit/disk/system_calls.c -o $@
 
 $(DISK)/programs/c: $(DISK_SOURCES) $(OUT)/both/libhunkravy.a
 	mkdir -p $(@D)

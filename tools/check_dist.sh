@@ -26,25 +26,20 @@ line=$(if python3 tools/proved.py check 2> /dev/null; then cat out/proved-line; 
 # The name of each file that tar lists, with a star if it is a program, or with the target of a link. All belong to root, and
 # others may read them.
 entries() {
-    sed 's|^\(.*[ ]\)\./|\1|' | awk '$1 !~ /^(.rwxr-xr-x|-rw-r--r--|lrwxrwxrwx)$/ || $2 !~ /^(0\/0|root\/root)$/ { print "wrong:", $0 }
+    awk '$1 !~ /^(.rwxr-xr-x|-rw-r--r--|lrwxrwxrwx)$/ || $2 !~ /^(0\/0|root\/root)$/ { print "wrong:", $0 }
         !/^d/ { print $6 ($1 ~ /^-rwx/ ? "*" : "") ($7 ? " " $7 " " $8 : "") }'
 }
-# contents MACHINE ARCHITECTURE: those of the packages for a processor, by its name and by Debian's.
+# contents MACHINE: those of the archive and of the wheel for a processor. dist/debian lists those of the Debian packages.
 contents() {
     for archive in *"$1"*.tar.gz; do
         echo "== $archive"
         tar --numeric-owner -tvzf "$archive" | entries | sed "s|^${archive%.tar.gz}/||"
     done
-    for package in *_"$2".deb; do
-        echo "== $package"
-        dpkg-deb -c "$package" | entries
-        dpkg-deb -f "$package" Package Version Architecture Multi-Arch Depends Section
-    done
     for wheel in *"$1".whl; do
         echo "== $wheel"
         python3 -c 'import sys, zipfile
 for entry in zipfile.ZipFile(sys.argv[1]).infolist():
-    print(entry.filename + {0o644: "", 0o755: "*"}[entry.external_attr >> 16 & 0o777])' "$wheel"
+    print(entry.filename + {0o644: "", 0o664: "", 0o755: "*"}[entry.external_attr >> 16 & 0o777])' "$wheel"
     done
 }
 # What dist/contents.txt lists, for x86-64 and for ARM: the same without the tool. A line with two folders stands for the files
@@ -58,21 +53,20 @@ listed() {
     done < dist/contents.txt
 }
 for_arm() {
-    listed | awk '/^== / { is_of_tool = /hunkravy_/ } !is_of_tool && !/^bin\/|share\/(bash|fish|man|zsh)|backup\.sh|^docs\/SEALED/' |
-        sed 's/x86_64/aarch64/g; s/amd64/arm64/g'
+    listed | grep -vE '^bin/|share/(bash|fish|man/man1|zsh)|backup\.sh|^docs/SEALED' | sed 's/x86_64/aarch64/g'
 }
 # Each line after the name of its package, in order.
 in_order() {
     awk '/^== / { package = $0; next } { print package, $0 }' | LC_ALL=C sort
 }
-# lists COMMAND MACHINE ARCHITECTURE: whether the list, as a command gives it, has the packages for a processor.
+# lists COMMAND MACHINE: whether the list, as a command gives it, has what is packed for a processor.
 lists() {
-    (cd "$dist" && contents "$2" "$3") | sed "s/$version/VERSION/g" | in_order > "$out/contents-$2.txt"
+    (cd "$dist" && contents "$2") | sed "s/$version/VERSION/g" | in_order > "$out/contents-$2.txt"
     "$1" | in_order | diff - "$out/contents-$2.txt" || fail "dist/contents.txt does not list what is packed, as $out/contents-$2.txt does"
 }
-lists listed x86_64 amd64
+lists listed x86_64
 if ls "$dist"/*aarch64* > /dev/null 2>&1; then
-    lists for_arm aarch64 arm64
+    lists for_arm aarch64
 else
     echo 'left out: the archive for ARM, since aarch64-linux-gnu-gcc is not installed'
 fi
@@ -82,21 +76,21 @@ if ls "$dist"/*_arm64.deb > /dev/null 2>&1; then
     for name in libhunkravy0 libhunkravy-dev; do
         for architecture in amd64 arm64; do
             mkdir -p "$work/both/$architecture"
-            dpkg-deb -x "$dist/${name}_${version}_$architecture.deb" "$work/both/$architecture"
+            dpkg-deb -x "$dist/${name}_$version-1_$architecture.deb" "$work/both/$architecture"
         done
     done
     diff -r "$work"/both/{amd64,arm64}/usr/share || fail 'the packages for two processors have other files of one name'
 fi
 
-# Everything, unpacked: the archives, the packages as a system of their own, and the wheel.
+# Everything: the archives and the wheel unpacked, and the packages installed into a system of their own.
 install_to=(python3 -m pip install --quiet --no-index --no-deps --disable-pip-version-check --root-user-action=ignore --target)
 mkdir "$work/empty" "$work/site"
-for archive in "$dist"/*.tar.gz; do
+for archive in "$dist"/*-linux.tar.gz; do
     tar -C "$work/empty" -xf "$archive"
 done
-for package in "$dist"/*_amd64.deb; do
-    dpkg-deb -x "$package" "$work/system"
-done
+mkdir -p "$work/system/var/lib/dpkg"
+dpkg=(dpkg --root="$work/system" --force-depends --force-not-root --force-script-chrootless --log=/dev/null)
+"${dpkg[@]}" -i "$dist"/*_amd64.deb > "$work/said" 2>&1 || { cat "$work/said"; fail 'the packages cannot be installed'; }
 "${install_to[@]}" "$work/site" "$dist"/*_x86_64.whl
 folder=$work/empty/hunkravy-$version-x86_64-linux system=$work/system/usr
 
@@ -121,31 +115,31 @@ for unpacked in "$work"/empty/*; do
     if [ "$machine" = x86_64 ]; then others='hunkravy-[^ ]*aarch64'; else others='hunkravy-[^ ]*x86_64|bin/hunkravy'; fi
     if grep -rnE --include='*.md' "$others|^@" "$unpacked"; then fail "a page of $machine names other files"; fi
 done
-if grep -nE '\]\((\.|[^)#:]*/)' "$work"/site/hunkravy-*.dist-info/METADATA | grep -v '](http'; then fail 'the wheel has a link to a file that is not there'; fi
-has "$work/site/hunkravy/_version.py" "^VERSION = \"$version\"\$"
+has "$work"/site/hunkravy-*.dist-info/METADATA "^Version: $version\$"
 has <("$folder/bin/hunkravy" --version) "^hunkravy $version\$"
 has "$folder/share/man/man1/hunkravy.1" "\"hunkravy $version\""
-for licence in "$work"/empty/*/{,rust/,python/}LICENSE "$work"/system/usr/share/doc/*/copyright \
-    "$work"/site/hunkravy-*/licenses/LICENSE; do
+for licence in "$work"/empty/*/{,rust/}LICENSE "$work"/system/usr/share/doc/*/copyright "$work"/site/hunkravy-*/LICENSE; do
     has "$licence" 'Permission is hereby granted'
     [ "$(grep -ihoE 'copyright:? (\(c\) )?2026 .*' "$licence" | sed 's/.*2026 //')" = 'The Hunkravy authors' ] || fail "$licence has another holder"
 done
 
 # What is linked into each file: the notices have the licence of each of the kit's libraries that the list of parts names, and
 # the list has those that crates.txt names.
-python3 - "$work"/empty/* "$work"/empty/*/{rust,python} "$system"/share/doc/{hunkravy,libhunkravy0,libhunkravy-dev} "$work"/site/hunkravy-*.dist-info << 'END' ||
+python3 - "$work"/empty/* "$work"/empty/*/rust "$system"/share/doc/{hunkravy,libhunkravy0,libhunkravy-dev} "$work"/site/hunkravy-*.dist-info << 'END' ||
 import json, pathlib, sys
 sys.path.insert(0, "tools")
 import proved
 rows, kit = proved.listed()[0], pathlib.Path(proved.KIT, "rattle")
 for folder in map(pathlib.Path, sys.argv[1:]):
     wheel = folder.name.endswith(".dist-info")
-    notices = (folder / ("licenses/NOTICES" if wheel else "NOTICES")).read_text()
+    notices = (folder / "NOTICES").read_text()
     parts = json.loads((folder / ("sboms/hunkravy.spdx.json" if wheel else "parts.spdx.json")).read_text())
     names = {part["name"] for part in parts["packages"]} - {"hunkravy", "glibc", "gcc"}
     crate = "hunkravy" if folder.name == "hunkravy" or (folder / "bin").exists() else "aegis_c"
     needed = {name for own in proved.below(rows, crate) | {crate} for name in rows[own]} - set(rows)
     assert needed <= names and "std" in names, (folder, needed - names)
+    declared = " ".join(part["licenseDeclared"] for part in parts["packages"])
+    assert "NOASSERTION" not in declared and ("Unicode-3.0" in declared) == ("UNICODE LICENSE V3" in notices), (folder, declared)
     for path in (path for name in names for path in kit.glob(f"{name}/LICENSE*") if path.name != "LICENSE-APACHE"):
         assert path.read_text() in notices, (folder, path)
 END
@@ -174,7 +168,6 @@ hardened() {
 }
 for file in "$work"/empty/*/lib/libhunkravy.so.0 "$system"/lib/*/libhunkravy.so.0 "$work/site/hunkravy/_native.abi3.so"; do
     hardened "$file"
-    if command -v hardening-check > /dev/null; then hardening-check --nocfprotection "$file"; fi
 done
 
 # The sums of the release are right, by the command of its page.
@@ -182,55 +175,36 @@ command=$(sed -n 's/^2\. .*`\(sha256sum [^`]*\)`.*/\1/p' dist/VERIFY.md)
 (cd "$dist" && $command --strict --quiet && diff <(ls | sort) <((echo SHA256SUMS; cut -c 67- SHA256SUMS) | sort)) ||
     fail 'the sums are not those of the files'
 
-# A signature of them verifies by the command of the page. One of other sums, or by another key, does not.
-command=$(sed -n 's/^ *\(ssh-keygen -Y verify .*\)$/\1/p' dist/VERIFY.md)
-verifies() {
-    cp "$dist/SHA256SUMS" "$work"
-    rm -f "$work/SHA256SUMS.sig"
-    ssh-keygen -q -Y sign -f "$work/$1" -n hunkravy "$work/SHA256SUMS"
-    sed -i "$2" "$work/SHA256SUMS"
-    (cd "$work" && eval "$command" > "$work/said" 2>&1)
+# `make sign` signs them, and the commands of the page find each change: of a file, of a sum, of the key, and no signature.
+verify=$(sed -n 's/^ *\(ssh-keygen -Y verify .*\)$/\1/p' dist/VERIFY.md)
+signed() {
+    rm -rf "$work/signed"
+    mkdir "$work/signed"
+    cp -r "$dist" "$work/signed"
+    "${MAKE:-make}" --no-print-directory -s sign "OUT=$work/signed" "KEY=$work/$1"
+    (cd "$work/signed/dist" && eval "$2" && eval "$verify" && $command --strict --quiet) > "$work/said" 2>&1
 }
 if command -v ssh-keygen > /dev/null; then
     for key in key other; do ssh-keygen -q -t ed25519 -N '' -f "$work/$key"; done
-    echo "hunkravy $(cat "$work/key.pub")" > "$work/signers"
-    verifies key '' || fail "$(cat "$work/said")"
-    if verifies key '1s/^./x/' || verifies other ''; then fail 'a wrong signature is accepted'; fi
+    signed key '' || fail "a right signature is rejected: $(cat "$work/said")"
+    for change in 'echo >> VERIFY.md' "sed -i '1s/^./x/' SHA256SUMS" 'rm SHA256SUMS.sig' 'rm VERIFY.md SHA256SUMS' \
+        "sed 's/^/hunkravy /' '$work/other.pub' > signers"; do
+        if signed key "$change"; then fail "after this change the signature is accepted: $change"; fi
+    done
 else
     echo 'left out: the signature of a release, since ssh-keygen is not installed'
 fi
 
-# The size and the changelog of each package. The sums in each package and in the wheel are those of all of its files, and
-# programs that are built over the shared library depend on this version of it.
-for package in "$dist"/*.deb; do
-    rm -rf "$work/one"
-    dpkg-deb -R "$package" "$work/one"
-    size=$(find "$work/one/usr" -type f -printf '%s\n' | awk '{ sum += $1; count++ } END { print int(sum / 1024), int(sum / 1024) + count }')
-    awk -v size="$size" '/^Installed-Size: / { split(size, most); exit !(most[1] <= $2 && $2 <= most[2]) }' "$work/one/DEBIAN/control" ||
-        fail "$package: its files have $size KiB"
-    [ "$(zcat "$work"/one/usr/share/doc/*/changelog.gz | sed -n 's/^hunkravy (\(.*\)) unstable; urgency=medium$/\1/p')" = "$version" ] ||
-        fail "$package: its changelog is that of another version"
-    (cd "$work/one" && md5sum --strict --quiet -c DEBIAN/md5sums && diff <(find usr -type f | sort) <(cut -c 35- DEBIAN/md5sums | sort)) ||
-        fail "other sums in $package"
-    name=$(dpkg-deb -f "$package" Package)
-    [ "$(ls "$work/one/usr/share/doc")" = "$name" ] || fail "$package has pages in a folder that stays when it is removed"
-done
-[ "$(dpkg-deb -I "$dist/libhunkravy0_${version}_amd64.deb" shlibs)" = "libhunkravy 0 libhunkravy0 (>= $version)" ] ||
+# Programs that are built over the shared library depend on this version of it.
+[ "$(dpkg-deb -I "$dist/libhunkravy0_$version-1_amd64.deb" shlibs)" = "libhunkravy 0 libhunkravy0 (>= $version)" ] ||
     fail 'programs depend on another version of the library'
-dpkg-deb -I "$dist/libhunkravy0_${version}_amd64.deb" symbols | sed -n "s/^ \(hunkravy_.*\)@HUNKRAVY_0 $version\$/\1/p" |
-    diff <(grep -o 'hunkravy_[a-z0-9_]* (' c/abi.txt | sed 's/ (//' | LC_ALL=C sort -u) - || fail 'the package lists other symbols than the headers'
-python3 - "$dist"/*.whl << 'END' || fail 'a wheel has other sums or another tag than its name'
-import base64, csv, hashlib, sys, zipfile
-for name in sys.argv[1:]:
-    tag = "-".join(name[: -len(".whl")].split("-")[-3:])
-    wheel = zipfile.ZipFile(name)
-    files = {entry: wheel.read(entry) for entry in wheel.namelist() if not entry.endswith("/")}
-    record = next(entry for entry in files if entry.endswith("/RECORD"))
-    assert f"\nTag: {tag}\n" in files[record.replace("RECORD", "WHEEL")].decode(), name
-    sums = lambda data: "sha256=" + base64.urlsafe_b64encode(hashlib.sha256(data).digest()).decode().rstrip("=")
-    expected = {entry: [sums(data), str(len(data))] for entry, data in files.items()} | {record: ["", ""]}
-    assert {row[0]: row[1:] for row in csv.reader(files[record].decode().splitlines())} == expected, name
-END
+
+# The debug symbols are those of the shared library, and name sources as the repository has them.
+debug=("$system"/lib/debug/.build-id/*/*.debug)
+readelf -n "$system"/lib/*/libhunkravy.so.0 | grep -q "Build ID: $(echo "${debug[0]#*build-id/}" | sed 's|/||; s|\.debug||')$" ||
+    fail 'the debug symbols are those of another library'
+names=$(readelf --debug-dump=info "${debug[0]}" | grep -E 'DW_AT_(name|comp_dir)' | sed 's/.*: //')
+[[ $names == *library/messages.c* && $names != *$'\n/'* ]] || fail 'the debug symbols name no sources, or a folder of this machine'
 
 # The tool is one program, which is bound before it runs, and needs no file beside it. make check-tool tests its start.
 for program in "$folder/bin/hunkravy" "$system/bin/hunkravy"; do
@@ -241,14 +215,9 @@ for program in "$folder/bin/hunkravy" "$system/bin/hunkravy"; do
 done
 
 # Each shell has its own completions.
-while read -r page installed; do
-    cmp "crates/hunkravy/manual/$page" "$folder/share/$installed" || fail "$installed is not the page for $page"
-done << 'END'
-man man/man1/hunkravy.1
-bash bash-completion/completions/hunkravy
-zsh zsh/site-functions/_hunkravy
-fish fish/vendor_completions.d/hunkravy.fish
-END
+for pair in man:man/man1/hunkravy.1 bash:bash-completion/completions/hunkravy zsh:zsh/site-functions/_hunkravy fish:fish/vendor_completions.d/hunkravy.fish; do
+    cmp "crates/hunkravy/manual/${pair%%:*}" "$folder/share/${pair#*:}" || fail "${pair#*:} is not the page for ${pair%%:*}"
+done
 
 # Used with no kit and nothing of the repository in PATH: from C over the shared library and over the static one, from Rust and
 # Python over what is in the archive, and the tool.
@@ -265,17 +234,25 @@ options=$(use PKG_CONFIG_PATH="$libraries/pkgconfig" pkg-config --cflags --libs 
 if command -v cargo > /dev/null; then
     use CARGO_TARGET_DIR=target cargo run -q --offline --manifest-path "$folder/rust/Cargo.toml" --example first
 fi
-for source in "$folder"/python/*.whl "$folder/python"; do
+# Python: the wheel, and its sources, with the system's setuptools and with one that pip takes from a folder of wheels.
+for words in "$folder/python/*.whl" "$folder/python/*.tar.gz --no-build-isolation" "$folder/python/*.tar.gz --find-links=/usr/share/python-wheels"; do
+    if [[ $words == *find-links* ]] && ! ls /usr/share/python-wheels/wheel-*.whl > /dev/null 2>&1; then
+        echo 'left out: a build in isolation, since python3-setuptools-whl and python3-wheel-whl are not installed'
+        continue
+    fi
     rm -rf "$work/packages"
-    use "${install_to[@]}" packages "$source"
-    use PYTHONPATH=packages python3 "$folder/python/examples/session_token.py"
+    # shellcheck disable=SC2086
+    use PATH=/usr/bin:/bin "${install_to[@]}" packages $words
+    use PYTHONPATH=packages /usr/bin/python3 "$folder/python/examples/session_token.py"
 done
 # Without a compiler, or without the header of Python, the last line that the build prints names a package.
-use CC=no-compiler "${install_to[@]}" packages "$folder/python" > "$work/said" 2>&1 || true
-grep -B 1 'end of output' "$work/said" | has - 'no C compiler no-compiler: install gcc'
-(cd "$folder/python" && python3 -Bc 'import build_wheel, sysconfig; sysconfig.get_path = lambda name: "/none"; build_wheel.native_module("")') \
-    2> "$work/said" || true
-has "$work/said" 'no Python.h: install python3-dev'
+says() {
+    use PATH=/usr/bin:/bin "${@:2}" "${install_to[@]}" packages --no-build-isolation "$folder"/python/*.tar.gz > "$work/said" 2>&1 || true
+    grep -B 1 'end of output' "$work/said" | has - "$1"
+}
+says 'no C compiler no-compiler: install gcc' CC=no-compiler
+echo 'import os; exists = os.stat; os.stat = lambda path, **words: exists("/none" if str(path).endswith("Python.h") else path, **words)' > "$work/sitecustomize.py"
+says 'no Python.h: install python3-dev' PYTHONPATH="$work"
 
 # The commands of the page of the archive, on a copy. They install it in a folder of their own.
 cp -r "$folder" "$work/page"
@@ -291,9 +268,13 @@ for prefix in "$folder" "$system" "$work/local"; do
         "$0" check -k key sealed; "$0" open -k key sealed opened; cmp text opened' "$prefix/bin/hunkravy"
 done
 
-# What Debian wants of packages, where its program is installed.
+# Nothing stays of a package that is removed.
+"${dpkg[@]}" -P hunkravy libhunkravy-dev libhunkravy0 libhunkravy0-dbgsym > "$work/said" 2>&1 || { cat "$work/said"; fail 'the packages cannot be removed'; }
+if [ -e "$system" ] && find "$system" ! -type d | grep .; then fail 'these files stay when the packages are removed'; fi
+
+# What Debian wants of packages, where its program is installed. No bug of Debian asks for these.
 if command -v lintian > /dev/null; then
-    lintian --allow-root --fail-on error,warning "$dist"/*.deb
+    lintian --allow-root --fail-on error,warning --suppress-tags initial-upload-closes-no-bugs "$dist"/*.deb
 else
     echo 'left out: the packages by lintian, which is not installed'
 fi

@@ -2,8 +2,8 @@
 
 - A sample in ```rust stands in a crate, one in ```c in an example of C, and one in ```rs in an example of Rust, line breaks
   aside. Those of the module docs of `aegis` stand in another crate. Samples in ```python are run (tools/check_python.sh).
-- What a page calls is there: the commands of the tool and the targets of make in ```sh or between two `, and the functions
-  of docs/RANDOM-ACCESS.md.
+- What a page calls is there: the commands of the tool and the targets of make in ```sh or between two `, the files of
+  definitions, and the functions of docs/RANDOM-ACCESS.md.
 - A function in a table of contracts is there, and so is each clause or definition that stands beside it: in the contract of
   one of the row's functions, if they are found. So are the definitions in a table of steps.
 - The version of each file that has one is that of VERSION.
@@ -77,16 +77,23 @@ def make_targets():
     return "|".join(re.escape(name).replace("%", ".+") for name in names)
 
 
+# A run of make, and the words after it.
+MAKE = r"(?:[A-Z_]+=\S+ )*make((?: -\w+| [A-Z_]+=[^\s`]+| [a-z][\w+/.-]*)+)"
+
+
 def strange_words():
-    """Yields each command, target and function that a page calls and that is not there."""
+    """Yields each command, target and function that a page calls, and each file of definitions, that is not there."""
     commands = re.search("words='(keygen [a-z ]*)'", read(ROOT / "crates/hunkravy/manual/bash"))[1].replace(" ", "|")
     # `hunkravy v1` is the context of sealed files.
-    known = (rf"hunkravy ({commands}|--\w+|v1)", rf"make ({make_targets()}|[A-Z]+=\S+)")
+    known = (rf"hunkravy ({commands}|--\w+|v1)", rf"make ({make_targets()}|out/\S+)")
     for page in PAGES:
         shell = "".join(sample for language, sample in SAMPLE.findall(read(page)) if language == "sh")
-        words = re.findall(r"^(?:\S*/)?(hunkravy \S+|make [\w+][\w+-]*)", shell, re.M)
-        words += re.findall(r"`(hunkravy [\w-]+|make [\w+][\w+-]*)(?: [^`]*)?`", read(page))
+        words = re.findall(r"^(?:\S*/)?(hunkravy \S+)", shell, re.M) + re.findall(r"`(hunkravy [\w-]+)(?: [^`]*)?`", read(page))
+        made = re.findall(rf"(?:^|&& |; |\(){MAKE}", shell, re.M) + re.findall(rf"`{MAKE}", read(page))
+        words += [f"make {word}" for targets in made for word in targets.split() if word[0].islower()]
         yield from (f"{page}: there is no {word}" for word in words if not any(re.fullmatch(each, word) for each in known))
+        files = re.findall(r"\b(\w+\.antt)\b", read(page))
+        yield from (f"{page}: there is no {file}" for file in files if not any(ROOT.glob(f"crates/*/specs/{file}")))
     raf = joined(ROOT.glob("rust/src/raf/*.rs"))
     for language, sample in SAMPLE.findall(read(ROOT / "docs/RANDOM-ACCESS.md")):
         called = re.findall(r"(?:Raf::<\w+>::|Raf::|file\.)(\w+)\(", sample) if language == "text" else []
@@ -239,13 +246,15 @@ VERSIONED = {
     "CHANGELOG.md": "## [{0}] - ",
     "c/include/hunkravy.h": '#define HUNKRAVY_VERSION "{0}"\n#define HUNKRAVY_VERSION_MAJOR {1}\n'
     "#define HUNKRAVY_VERSION_MINOR {2}\n#define HUNKRAVY_VERSION_PATCH {3}\n",
-    "crates/aegis_tool/src/version.rt": 'const VERSION: &str = "{0}";',
+    "crates/aegis_tool/src/lib.rt": 'const VERSION: &str = "{0}";',
     "crates/hunkravy/manual/man": '"hunkravy {0}"',
     "rust/Cargo.toml": 'version = "{0}"\n',
     "rust/Cargo.lock": 'name = "hunkravy"\nversion = "{0}"\n',
     "README.md": "hunkravy-{0}-x86_64-linux",
     "c/README.md": "hunkravy-{0}-x86_64-linux",
     "rust/README.md": "hunkravy-{0}-x86_64-linux",
+    "python/README.md": "hunkravy-{0}.tar.gz",
+    "CONTRIBUTING.md": "hunkravy-{0}.tar.gz",
 }
 
 

@@ -1,9 +1,10 @@
 #!/bin/bash
-# check_python.sh FOLDER LIBRARY: the tests of the Python package that lies unpacked in a folder, which run the samples
-# of its pages and its example too; the same tests of a native module over the library with gcc's sanitizers; what the
-# module exports and needs; and the types of the package and of its tests.
+# check_python.sh FOLDER SDIST: the tests of the Python package that lies unpacked in a folder, which run the samples of its
+# pages and its example too; the same tests of a native module with gcc's sanitizers; and what the module exports and
+# needs.
 set -euo pipefail
-folder=$1 library=$2
+folder=$1
+export HUNKRAVY_SDIST=$2
 cd "$(dirname "$0")/../python"
 work=$(mktemp -d)
 trap 'rm -rf "$work"' EXIT
@@ -29,10 +30,7 @@ names=$(nm -D --defined-only "$module" | awk '{ print $3 }')
 [ "$names" = PyInit__native ] || fail "the native module exports $names"
 if nm -D --undefined-only "$module" | grep hunkravy; then fail 'the native module needs a library'; fi
 
-# It is compiled for the stable interface of the version that its wheel names, and what is bound at load time is not writable.
-headers=$(python3 -c 'import sysconfig; print(sysconfig.get_path("include"))')
-gcc -E -dM -I../c/include "-I$headers" native/native.c | grep '^#define Py_LIMITED_API 0x030B0000$' > /dev/null ||
-    fail 'the native module is compiled for another interface than that of Python 3.11'
+# What is bound at load time is not writable.
 readelf -d "$module" | grep -q -w NOW && readelf -lW "$module" | grep -q GNU_RELRO ||
     fail 'the native module is not bound when it is loaded'
 
@@ -45,43 +43,36 @@ else
     echo 'left out: the Python package on a processor of level x86-64-v2, by qemu-x86_64, which is not installed'
 fi
 
+# build NAME: builds the wheel from the sources, and unpacks it.
+build() {
+    SOURCE_DATE_EPOCH=315532800 _PYTHON_HOST_PLATFORM=manylinux_2_17-$(uname -m) CC=gcc \
+        "$BUILD_PYTHON" -m pip --quiet wheel --no-index --no-deps --no-build-isolation -w "$work/$1-wheel" "$HUNKRAVY_SDIST"
+    python3 -m zipfile -e "$work/$1"-wheel/*.whl "$work/$1"
+}
+
 # On a processor that no build runs on, the import says so: the library of this module finds none.
-echo 'int __wrap_hunkravy_level(void); int __wrap_hunkravy_level(void) { return 0; }' > "$work/older.c"
-mkdir "$work/older"
-CC=gcc CFLAGS="-Wl,--wrap=hunkravy_level $work/older.c" python3 build_wheel.py "$work/older" "$library" "$(uname -m)" > "$work/wheel"
-python3 -m zipfile -e "$(cat "$work/wheel")" "$work/older"
+echo 'int __wrap_hunkravy_level(void); int __wrap_hunkravy_level(void) { return 0; }' | gcc -fPIC -c -o "$work/older.o" -x c -
+LDFLAGS="-Wl,--wrap=hunkravy_level $work/older.o" build older
 (PYTHONPATH=$work/older python3 -P -c 'import hunkravy' 2>&1 || true) | grep -q '^ImportError: .* x86-64-v2 ' ||
     fail 'the import does not say that the processor is too old'
 
 # Another build gives the same bytes as that of `make`.
-again=$(CC=gcc python3 build_wheel.py "$work" "$library" "$(uname -m)")
-cmp "$again" "$(dirname "$folder")/$(basename "$again")" || fail 'two builds of the wheel differ'
+CFLAGS=-Werror build again
+cmp "$work"/again-wheel/*.whl "$folder"/../*"$(uname -m)".whl || fail 'two builds of the wheel differ'
 
 # With the sanitizers. Python itself leaks.
 sanitizer=$(gcc -print-file-name=libasan.so)
 if [ -e "$sanitizer" ]; then
-    CC=gcc CFLAGS='-O1 -g -fsanitize=address,undefined -fno-sanitize-recover' \
-        python3 build_wheel.py "$work" "$library" "$(uname -m)" > "$work/wheel"
-    python3 -m zipfile -e "$(cat "$work/wheel")" "$work/sanitized"
+    CFLAGS='-O1 -g -fsanitize=address,undefined -fno-sanitize-recover' build sanitized
     export ASAN_OPTIONS=detect_leaks=0:allocator_may_return_null=1
     HUNKRAVY_SANITIZED=1 LD_PRELOAD=$sanitizer PYTHONMALLOC=malloc run_tests "$work/sanitized"
 else
     echo 'left out: the native module with sanitizers, which gcc does not have'
 fi
 
+headers=$(python3 -c 'import sysconfig; print(sysconfig.get_path("include"))')
 if command -v clang > /dev/null; then
     clang --analyze --analyzer-output text -Xclang -analyzer-werror -std=c11 -I../c/include "-I$headers" native/*.c
 else
     echo 'left out: the native module by the analyzer of clang, which is not installed'
-fi
-
-# Of the package as sources: as an installed one, which PYTHONPATH would make of it, it is not checked.
-if command -v mypy > /dev/null; then
-    (cd "$folder" && env -u PYTHONPATH mypy --strict --cache-dir=/dev/null -p hunkravy)
-    (cd tests && env -u PYTHONPATH MYPYPATH="$folder" mypy --strict --cache-dir=/dev/null ./*.py ../examples/*.py)
-    # A name of the standard library that mypy's own description of it gets wrong.
-    (cd "$folder" && PYTHONPATH=. stubtest --concise hunkravy --ignore-unused-allowlist \
-        --allowlist <(echo 'hunkravy\._files\.BinaryIO\.write'))
-else
-    echo 'left out: the types of the Python package by mypy, which is not installed'
 fi

@@ -2,7 +2,8 @@
 # check_time.sh PROGRAM: runs c/tests/check_time.c under valgrind's memcheck, which must report both controls, and
 # otherwise nothing but what c/tests/check_time.supp names: at most one branch for each opening, of which there are for a
 # message three at once, three on a state, three of records, three of pages and two of headers, and those few of a page and
-# of a header that are named there.
+# of a header that are named there; one more for each opening of a message into another buffer; and one for each result, of
+# an opening or of a MAC, that an export turns into a code.
 set -eu
 program=$1
 suppressions=c/tests/check_time.supp
@@ -24,7 +25,8 @@ said=$(memcheck) || { cat "$log" >&2; exit 1; }
 echo "$said"
 openings=${said##* }
 awk -v messages="$((openings / 3))" '
-    BEGIN { most["at-once"] = most["on-a-state"] = most["all-of-a-page"] = 3; most["in-place"] = 11; most["what-a-header-has"] = 1 }
+    BEGIN { most["at-once"] = most["on-a-state"] = most["all-of-a-page"] = 3; most["in-place"] = 11; most["what-a-header-has"] = 1
+        most["into-another-buffer"] = 2; most["as-a-code"] = 10 }
     / used_suppression: / && sub(/^accepted-or-refused-/, "", $4) { count[$4] += $3 }
     END {
         for (kind in count) {

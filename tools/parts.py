@@ -16,6 +16,9 @@ from proved import KIT, below, listed
 
 KIT_SOURCES, RLIBS = pathlib.Path(KIT, "rattle"), pathlib.Path(KIT, "rlibs")
 VERSION = pathlib.Path("VERSION").read_text("ascii").strip()
+# The licences that comments of Rattle's sources name, in SPDX's words.
+NAMED = {"MIT licence": "MIT", "Unicode License": "Unicode-3.0", "Unlicense": "Unlicense"}
+RATTLE = {"licenseId": "LicenseRef-Rattle", "extractedText": "Rattle's kit has no notice for its own libraries."}
 # What the linker adds: the files that start and end a program or a shared library, whose licences allow it in any.
 LINKED = {"glibc": "LGPL-2.1-or-later", "gcc": "GPL-3.0-or-later WITH GCC-exception-3.1"}
 
@@ -71,8 +74,11 @@ def package(name, version, licence):
 
 
 def declared(name):
-    """Returns what the kit's file says of a library's licence, in SPDX's words."""
-    return "MIT" if any(KIT_SOURCES.glob(f"{name}/LICENSE*")) else "NOASSERTION"
+    """Returns a library's licences: that of its file, or Rattle's own and those that its comments name."""
+    if any(KIT_SOURCES.glob(f"{name}/LICENSE*")):
+        return "MIT"
+    named = "".join(comments(name))
+    return " AND ".join([RATTLE["licenseId"], *(licence for words, licence in NAMED.items() if words in named)])
 
 
 def document(crates, libraries):
@@ -91,6 +97,7 @@ def document(crates, libraries):
         "documentNamespace": f"urn:uuid:{uuid.uuid5(uuid.NAMESPACE_OID, f'{name} {moment} {kit_version()}')}",
         "creationInfo": {"created": f"{moment:%Y-%m-%dT%H:%M:%SZ}", "creators": ["Tool: hunkravy-parts.py"]},
         "packages": parts,
+        "hasExtractedLicensingInfos": [RATTLE],
         "relationships": [dict(zip(("spdxElementId", "relationshipType", "relatedSpdxElement"), link)) for link in links],
     }
 

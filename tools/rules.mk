@@ -43,14 +43,14 @@ install-tool: $(TOOL)
 
 # The tests of the program that need files, links, pipes, terminals, full devices, calls that fail and kills, which no proof
 # covers: a minute or two, and 300 MB of disk. Each file of them is a scene, and several run side by side.
-SCENES = $(notdir $(basename $(wildcard tools/check_tool/test_*.py)))
+SCENES = $(notdir $(basename $(wildcard tools/scenes/test_*.py)))
 
 check-tool: $(TOOL)
-	$(CC) -shared -fPIC -O1 tools/check_tool/calls.c -o $(OUT)/calls.so
+	$(CC) -shared -fPIC -O1 tools/scenes/system_calls.c -o $(OUT)/system_calls.so
 	$(MAKE) --no-print-directory --output-sync --jobs=$(or $(RT_JOBS),$(CHECKS)) $(SCENES:%=check-tool-%)
 
 check-tool-%:
-	cd tools/check_tool && TOOL="$(CURDIR)/$(TOOL)" CALLS_LIBRARY="$(CURDIR)/$(OUT)/calls.so" \
+	cd tools/scenes && TOOL="$(CURDIR)/$(TOOL)" CALLS_LIBRARY="$(CURDIR)/$(OUT)/system_calls.so" \
 		VERSION=$(VERSION) SHELL=/bin/sh python3 -B scene.py $*
 
 # ---- Batches of writes

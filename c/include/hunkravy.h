@@ -37,7 +37,7 @@
  *
  * - A pointer points to as many bytes as its length, which is the next parameter or is in the comment. Inputs are
  *   initialised; outputs need not be. A pointer may be null if its length is a parameter and is 0.
- * - An output overlaps no other argument, unless the comment allows the same pointer.
+ * - An output overlaps no other argument, unless the comment allows it.
  * - Until a function returns, no other thread or process may read an output, or write an output or an input. Meanwhile
  *   an output may hold the plaintext, or bytes that are not verified yet, even if the process is killed.
  *
@@ -96,7 +96,7 @@ enum hunkravy_code {
     HUNKRAVY_CONTEXT_TOO_LONG = -9,
     /* The header is not that of a record stream. */
     HUNKRAVY_UNKNOWN_HEADER = -10,
-    /* A record has less than HUNKRAVY_RECORD_BYTES, or the bytes of a journal begin with no write. */
+    /* A record has less than HUNKRAVY_RECORD_BYTES. */
     HUNKRAVY_WRONG_RECORD_LENGTH = -11,
     /* The page size is less than HUNKRAVY_PAGE_MIN_SIZE or more than HUNKRAVY_PAGE_MAX_SIZE. */
     HUNKRAVY_WRONG_PAGE_SIZE = -12,
@@ -165,8 +165,8 @@ HUNKRAVY_MUST_USE int hunkravy_decrypt_in_place(uint32_t variant, uint8_t *mc, s
     const uint8_t *mac, size_t maclen);
 
 /*
- * Encrypts the `mlen` bytes at `m`. Writes the ciphertext of `mlen` bytes to `c`, which may be the same pointer, and
- * the tag to `mac`.
+ * Encrypts the `mlen` bytes at `m`. Writes the ciphertext of `mlen` bytes to `c`, which may be the same pointer or
+ * overlap `m`, and the tag to `mac`.
  */
 HUNKRAVY_MUST_USE int hunkravy_encrypt(uint32_t variant, uint8_t *c, const uint8_t *m, size_t mlen,
     const uint8_t *ad, size_t adlen, const uint8_t *npub, size_t npublen, const uint8_t *k, size_t klen,
@@ -174,7 +174,7 @@ HUNKRAVY_MUST_USE int hunkravy_encrypt(uint32_t variant, uint8_t *c, const uint8
 
 /*
  * Decrypts the `clen` bytes at `c`, and verifies the tag `mac`. Writes the message of `clen` bytes to `m`, which may
- * be the same pointer. After HUNKRAVY_INVALID_TAG each byte at `m` is 0xaa.
+ * be the same pointer or overlap `c`. After HUNKRAVY_INVALID_TAG each byte at `m` is 0xaa.
  */
 HUNKRAVY_MUST_USE int hunkravy_decrypt(uint32_t variant, uint8_t *m, const uint8_t *c, size_t clen,
     const uint8_t *ad, size_t adlen, const uint8_t *npub, size_t npublen, const uint8_t *k, size_t klen,
@@ -232,8 +232,8 @@ HUNKRAVY_MUST_USE int hunkravy_state_encrypt_in_place(hunkravy_state *st, uint8_
     HUNKRAVY_NONNULL(1);
 
 /*
- * Encrypts the next `mlen` bytes of the message, from `m` to `c`, which may be the same pointer. Returns the codes of
- * hunkravy_state_encrypt_in_place. After an error nothing is written.
+ * Encrypts the next `mlen` bytes of the message, from `m` to `c`, which may be the same pointer or overlap `m`. Returns
+ * the codes of hunkravy_state_encrypt_in_place. After an error nothing is written.
  */
 HUNKRAVY_MUST_USE int hunkravy_state_encrypt(hunkravy_state *st, uint8_t *c, const uint8_t *m, size_t mlen)
     HUNKRAVY_NONNULL(1);
@@ -250,8 +250,9 @@ HUNKRAVY_MUST_USE int hunkravy_state_decrypt_in_place_unverified(hunkravy_state 
     HUNKRAVY_NONNULL(1);
 
 /*
- * Decrypts the next `clen` bytes of the ciphertext, from `c` to `m`, which may be the same pointer, BEFORE THE TAG IS
- * VERIFIED. Returns the codes of hunkravy_state_decrypt_in_place_unverified. After an error nothing is written.
+ * Decrypts the next `clen` bytes of the ciphertext, from `c` to `m`, which may be the same pointer or overlap `c`,
+ * BEFORE THE TAG IS VERIFIED. Returns the codes of hunkravy_state_decrypt_in_place_unverified. After an error nothing is
+ * written.
  */
 HUNKRAVY_MUST_USE int hunkravy_state_decrypt_unverified(hunkravy_state *st, uint8_t *m, const uint8_t *c,
     size_t clen) HUNKRAVY_NONNULL(1);

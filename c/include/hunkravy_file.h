@@ -71,7 +71,8 @@ HUNKRAVY_MUST_USE int hunkravy_file_create(hunkravy_file **file, const char *pat
 
 /*
  * Opens and locks the file at a path, and completes a commit that was interrupted, or discards all of it. After an error
- * `*file` is null. After any of the codes above nothing has changed; after an error of the system open it again.
+ * `*file` is null. After any of the codes above nothing has changed, except that HUNKRAVY_NO_FILE may follow a journal that
+ * was made with the key, and that makes no header; after an error of the system open it again.
  */
 HUNKRAVY_MUST_USE int hunkravy_file_open(hunkravy_file **file, const char *path, uint32_t variant, const uint8_t *k,
     size_t klen) HUNKRAVY_NONNULL(1, 2);
@@ -82,7 +83,7 @@ HUNKRAVY_MUST_USE int hunkravy_file_open(hunkravy_file **file, const char *path,
  *
  * Nothing is committed, and the result is the reason's code, if a batch is open, if the file is broken, or if a change or
  * a commit has failed and none has been committed since: the pending changes may be a part of what was meant. A failure in
- * a batch that was undone does not count, nor does one before hunkravy_file_discard.
+ * a batch that was undone does not count, nor does one before hunkravy_file_discard, nor EINVAL for a null pointer.
  */
 HUNKRAVY_MUST_USE int hunkravy_file_close(hunkravy_file *file);
 
@@ -120,7 +121,10 @@ void hunkravy_file_discard(hunkravy_file *file) HUNKRAVY_NONNULL(1);
 /* Begins a batch, in another one if there is any, and sets `*batch` to its number. */
 HUNKRAVY_MUST_USE int hunkravy_file_begin(hunkravy_file *file, uint64_t *batch) HUNKRAVY_NONNULL(1, 2);
 
-/* Ends a batch. After any error except HUNKRAVY_WRONG_STATE it has ended, and is undone unless the file is broken. */
+/*
+ * Ends a batch. After any error except HUNKRAVY_WRONG_STATE it has ended, and is undone unless the file is broken; in a
+ * process that did not open the file nothing changes.
+ */
 HUNKRAVY_MUST_USE int hunkravy_file_end(hunkravy_file *file, uint64_t batch) HUNKRAVY_NONNULL(1);
 
 /* Undoes a batch. Does nothing if no such batch is open, or in a process that did not open the file. */

@@ -18,8 +18,8 @@
  *
  * - The functions use neither AES instructions nor look-up tables.
  * - An output must not overlap the key, the nonce, the associated data or, in the detached form, the tag.
- * - The functions are inline, in C89 too: there are no symbols with libsodium's names to link with. A source file includes either
- *   this header or sodium.h; different files of one program may differ.
+ * - The functions are inline, in C89 too: there are no symbols with libsodium's names to link with. A source file includes
+ *   either this header or sodium.h; different files of one program may differ.
  * - Random bytes come from getrandom. There is no function to replace their source.
  */
 #ifndef HUNKRAVY_SODIUM_H

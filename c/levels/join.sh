@@ -7,6 +7,9 @@
 # hunkravy_v2_NAME or hunkravy_v3_NAME, and choose.c has the calls' own names. At last all is joined, and those of the two
 # builds are local too.
 #
+# Beside OUT.a it leaves what a shared library is linked from, as shared.a, with debug information. Paths in it begin at the
+# repository.
+#
 # Each function begins at a multiple of 64 bytes, so that where its loops begin does not depend on the program: a loop of
 # a thousand instructions fits the processor's store of decoded instructions or not by that.
 set -eu
@@ -21,7 +24,7 @@ x86_64*) branches=-fcf-protection ;;
 *) branches=-mbranch-protection=standard ;;
 esac
 compile() {
-    "${CC:-gcc}" -std=gnu99 -O2 -fPIC -fno-semantic-interposition -ffunction-sections -fdata-sections -fstack-protector-strong \
+    "${CC:-gcc}" -std=gnu99 -g "-ffile-prefix-map=$(realpath "$here/../..")=." "-ffile-prefix-map=$work=work" -O2 -fPIC -fno-semantic-interposition -ffunction-sections -fdata-sections -fstack-protector-strong \
         -U_FORTIFY_SOURCE -D_FORTIFY_SOURCE=3 $branches -Wall -Wextra -Wpedantic -Werror -Wno-error=cpp "-I$here/../include" "-I$here/../library" "$@"
 }
 
@@ -51,7 +54,7 @@ sections() {
 }
 
 mkdir "$work/calls"
-for file in calls records pages; do
+for file in messages records pages; do
     compile -c "$here/../library/$file.c" -o "$work/calls/$file.o"
 done
 compile -c "$here/../library/common.c" -o "$work/common.o"
@@ -83,4 +86,8 @@ done
 "${OBJCOPY:-objcopy}" --localize-hidden "$work/file.o"
 compile -fno-builtin -U_FORTIFY_SOURCE -c "$here/checked.c" -o "$work/checked.o"
 rm -f "$out"
+"${AR:-ar}" rcs "$(dirname "$out")/shared.a" "$work/hunkravy.o" "$work/file.o"
+"${OBJCOPY:-objcopy}" -g "$work/hunkravy.o"
+"${OBJCOPY:-objcopy}" -g "$work/file.o"
+"${OBJCOPY:-objcopy}" -g "$work/checked.o"
 "${AR:-ar}" rcs "$out" "$work/hunkravy.o" "$work/file.o" "$work/checked.o"

@@ -38,7 +38,8 @@ HUNKRAVY_MUST_USE int hunkravy_journal_final(hunkravy_state *st, uint8_t *mac) H
 HUNKRAVY_MUST_USE int hunkravy_journal_check(uint32_t variant, const uint8_t *file, size_t filelen, const uint8_t *k,
     size_t klen, const uint8_t *journal, size_t journallen, size_t *writeslen) HUNKRAVY_NONNULL(8);
 
-/* Reads the head of the first write of an accepted journal. HUNKRAVY_WRONG_RECORD_LENGTH: there is none. */
+/* Reads the head of the first write of an accepted journal. HUNKRAVY_NO_WRITE: there is none. */
+#define HUNKRAVY_NO_WRITE (-22)
 HUNKRAVY_MUST_USE int hunkravy_journal_next(const uint8_t *writes, size_t writeslen, uint64_t *place,
     size_t *byteslen) HUNKRAVY_NONNULL(3, 4);
 

@@ -7,12 +7,9 @@
 
 uint64_t hunkravy_page_place(uint32_t variant, uint32_t page_size, uint64_t number)
 {
-    uint64_t key_bytes = hunkravy_key_bytes(variant);
-    if (key_bytes == 0 || page_size < HUNKRAVY_PAGE_MIN_SIZE || page_size > HUNKRAVY_PAGE_MAX_SIZE ||
-        number > HUNKRAVY_PAGE_MAX_CONTENTS_BYTES / page_size) {
-        return UINT64_MAX;
-    }
-    return HUNKRAVY_PAGE_FIRST + number * (page_size + key_bytes + HUNKRAVY_PAGE_TAG_BYTES);
+    uint64_t place = UINT64_MAX;
+    (void)hunkravy_proved_page_place(variant, page_size, number, &place);
+    return place;
 }
 
 int hunkravy_page_seal(uint32_t variant, uint8_t *page, size_t pagelen, const uint8_t *id, uint64_t number,

@@ -6,6 +6,7 @@
  * - No pointer is null, even if its length is 0. The macros below pass the address of a byte in the place of one that
  *   may be null.
  * - What a pointer points to is initialised, even if it is only written to.
+ * - A message and its ciphertext in another buffer are equally long.
  *
  * Callers of the library must ensure the rest, as hunkravy.h says: a pointer points to as many bytes as its length, no
  * output overlaps another argument, and no other thread uses an output.
@@ -40,8 +41,14 @@ int hunkravy_proved_check_lengths(uint32_t variant, size_t npublen, size_t klen,
     size_t maclen);
 int hunkravy_proved_encrypt_in_place(uint32_t variant, uint8_t *mc, size_t mclen, const uint8_t *ad, size_t adlen,
     const uint8_t *npub, size_t npublen, const uint8_t *k, size_t klen, uint8_t *mac, size_t maclen);
+int hunkravy_proved_encrypt(uint32_t variant, const uint8_t *m, size_t mlen, uint8_t *c, size_t clen,
+    const uint8_t *ad, size_t adlen, const uint8_t *npub, size_t npublen, const uint8_t *k, size_t klen, uint8_t *mac,
+    size_t maclen);
 int hunkravy_proved_decrypt_in_place(uint32_t variant, uint8_t *mc, size_t mclen, const uint8_t *ad, size_t adlen,
     const uint8_t *npub, size_t npublen, const uint8_t *k, size_t klen, const uint8_t *mac, size_t maclen);
+int hunkravy_proved_decrypt(uint32_t variant, const uint8_t *c, size_t clen, uint8_t *m, size_t mlen,
+    const uint8_t *ad, size_t adlen, const uint8_t *npub, size_t npublen, const uint8_t *k, size_t klen,
+    const uint8_t *mac, size_t maclen);
 int hunkravy_proved_stream(uint32_t variant, uint8_t *out, size_t len, const uint8_t *npub, size_t npublen,
     const uint8_t *k, size_t klen);
 int hunkravy_proved_stream_xor_in_place(uint32_t variant, uint8_t *mc, size_t mclen, const uint8_t *npub,
@@ -56,9 +63,11 @@ int hunkravy_proved_state_init(uint32_t variant, uint64_t *st, const uint8_t *ad
 int hunkravy_proved_state_may_encrypt(const uint64_t *st, size_t mlen);
 int hunkravy_proved_state_may_decrypt(const uint64_t *st, size_t clen);
 int hunkravy_proved_state_encrypt_in_place(uint64_t *st, uint8_t *mc, size_t mclen);
+int hunkravy_proved_state_encrypt(uint64_t *st, const uint8_t *m, size_t mlen, uint8_t *c, size_t clen);
 int hunkravy_proved_state_encrypt_final(uint64_t *st, uint8_t *mac, size_t maclen);
 int hunkravy_proved_state_decrypt_check(uint64_t *st, const uint8_t *c, size_t clen);
 int hunkravy_proved_state_decrypt_in_place_unverified(uint64_t *st, uint8_t *mc, size_t mclen);
+int hunkravy_proved_state_decrypt_unverified(uint64_t *st, const uint8_t *c, size_t clen, uint8_t *m, size_t mlen);
 int hunkravy_proved_state_decrypt_final(uint64_t *st, uint8_t *m, size_t mlen, const uint8_t *mac, size_t maclen);
 int hunkravy_proved_mac_init(uint32_t variant, uint64_t *st, const uint8_t *npub, size_t npublen, const uint8_t *k,
     size_t klen);
@@ -80,6 +89,7 @@ int hunkravy_proved_record_len(const uint64_t *st, const uint8_t *head, size_t *
 int hunkravy_proved_record_open(uint64_t *st, const uint8_t *context, size_t contextlen, uint8_t *record,
     size_t recordlen, uint8_t *is_last);
 
+int hunkravy_proved_page_place(uint32_t variant, uint32_t page_size, uint64_t number, uint64_t *place);
 int hunkravy_proved_page_seal(uint32_t variant, uint8_t *page, size_t pagelen, const uint8_t *id, uint64_t number,
     const uint8_t *npub, size_t npublen, const uint8_t *k, size_t klen);
 int hunkravy_proved_page_open(uint32_t variant, uint8_t *page, size_t pagelen, const uint8_t *id, uint64_t number,

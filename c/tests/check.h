@@ -36,6 +36,9 @@ static inline void holds(int fact, const char *what, const char *file, int line)
 
 /* ---- Bytes */
 
+/* Where the two buffers of a call lie in one: at the same place, and overlapping. */
+static const struct { size_t from, to; } PLACES[] = {{0, 0}, {0, 1}, {1, 0}};
+
 static inline int all_are(const void *bytes, size_t length, uint8_t value)
 {
     const uint8_t *at = (const uint8_t *)bytes;

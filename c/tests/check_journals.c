@@ -20,7 +20,7 @@ static void check_writing(uint32_t variant)
     HOLDS(hunkravy_journal_entry(&st, (UINT64_C(1) << 63) - 4, k, 3, head) == HUNKRAVY_OK);
     HOLDS(hunkravy_mac_update(&st, k, 3) == HUNKRAVY_WRONG_STATE);
     HOLDS(hunkravy_journal_final(&st, mac) == HUNKRAVY_OK && hunkravy_journal_final(&st, mac) == HUNKRAVY_WRONG_STATE);
-    HOLDS(hunkravy_journal_next(head, 3, &place, &length) == HUNKRAVY_WRONG_RECORD_LENGTH && place == 7 && length == 7);
+    HOLDS(hunkravy_journal_next(head, 3, &place, &length) == HUNKRAVY_NO_WRITE && place == 7 && length == 7);
 }
 
 /* The steps of a commit or of a recovery are these digits, and then there are none. */

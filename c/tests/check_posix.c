@@ -37,7 +37,7 @@ static int is_let(void)
 /* The calls that change something, each with what it changes. */
 static char calls[1000];
 static int writes_left = ALL;
-static int interruptions, takes_none;
+static int interruptions, takes_none, is_full;
 
 static void note(const char *call, int fd)
 {
@@ -64,7 +64,10 @@ WRAPPED(ssize_t, pwrite, (int fd, const void *bytes, size_t length, off_t place)
     (fd, bytes, takes_none ? 0 : length, place), note("write", fd), writes_left-- != 0)
 WRAPPED(int, ftruncate, (int fd, off_t length), (fd, length), note("resize", fd), 1)
 WRAPPED(int, fallocate, (int fd, int mode, off_t place, off_t length), (fd, mode, place, length), note("reserve", fd),
-    (errno = interruptions > 0 ? EINTR : 0, interruptions-- <= 0))
+    (errno = is_full            ? ENOSPC
+            : interruptions > 0 ? EINTR
+                                : 0,
+        !is_full && interruptions-- <= 0))
 WRAPPED(int, posix_fadvise, (int fd, off_t place, off_t length, int advice), (fd, place, length, advice),
     note("forget", fd), 1)
 WRAPPED(int, rename, (const char *from, const char *to), (from, to), strcat(calls, "rename, "), 1)
@@ -182,12 +185,15 @@ static void check_signals(void)
     HOLDS(hunkravy_file_close(opened) == 0 && unlink(path) == 0);
 }
 
-/* A write that takes no byte, and has no error, fails. */
-static void check_empty_writes(void)
+/* A commit fails if the disk is full, and if a write takes no byte and has no error. */
+static void check_commits_that_fail(void)
 {
     hunkravy_file *opened;
     HOLDS(hunkravy_file_create(&opened, path, HUNKRAVY_AEGIS256, key, sizeof key, 0) == 0);
     HOLDS(hunkravy_file_write(opened, 0, "before", 6) == 0);
+    is_full = 1;
+    HOLDS(hunkravy_file_commit(opened) == ENOSPC && hunkravy_file_check(opened) == 0);
+    is_full = 0;
     takes_none = 1;
     HOLDS(hunkravy_file_commit(opened) == EIO && hunkravy_file_check(opened) == 0);
     takes_none = 0;
@@ -277,7 +283,7 @@ int main(void)
     check_creations();
     check_order();
     check_signals();
-    check_empty_writes();
+    check_commits_that_fail();
     check_folders(folder);
     check_descriptors();
     check_random();

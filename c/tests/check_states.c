@@ -28,6 +28,21 @@ static hunkravy_state begun(const struct line *line)
     return st;
 }
 
+/* Encrypts or decrypts a chunk to a buffer that overlaps it, by a copy of the state. */
+static void check_overlap(hunkravy_state st, const uint8_t *from, const uint8_t *expected, size_t length,
+    int (*update)(hunkravy_state *, uint8_t *, const uint8_t *, size_t))
+{
+    uint8_t *both = filled(length + 1, 0x55);
+
+    for (size_t i = 0; i < COUNT(PLACES); i++) {
+        hunkravy_state copy = st;
+        memcpy(both + PLACES[i].from, from, length);
+        HOLDS(update(&copy, both + PLACES[i].to, both + PLACES[i].from, length) == HUNKRAVY_OK);
+        HOLDS(are_equal(both + PLACES[i].to, expected, length));
+    }
+    free(both);
+}
+
 /* In place, and to another buffer by a copy of the state. Both states are then the same. */
 static void check_seal(const struct line *line)
 {
@@ -37,6 +52,7 @@ static void check_seal(const struct line *line)
     for (size_t i = 0, at = 0; i < line->text.chunk_count; at += line->text.chunks[i++]) {
         size_t length = line->text.chunks[i];
         uint8_t *mc = copied(line->text.at + at, length), *c = filled(length, 0x55);
+        check_overlap(st, line->text.at + at, line->answer[0].at + at, length, hunkravy_state_encrypt);
         HOLDS(hunkravy_state_encrypt(&copy, c, mc, length) == HUNKRAVY_OK);
         HOLDS(are_equal(c, line->answer[0].at + at, length) && are_equal(mc, line->text.at + at, length));
         HOLDS(hunkravy_state_encrypt_in_place(&st, mc, length) == HUNKRAVY_OK);
@@ -112,6 +128,7 @@ static void check_open(const struct line *line)
         uint8_t *mc = copied(line->text.at + at, length), *to = length == 0 ? NULL : m + at;
         HOLDS(hunkravy_state_decrypt_check(&checked, mc, length) == HUNKRAVY_OK);
         HOLDS(hunkravy_state_decrypt_unverified(&copy, to, mc, length) == HUNKRAVY_OK);
+        check_overlap(st, line->text.at + at, to, length, hunkravy_state_decrypt_unverified);
         HOLDS(are_equal(mc, line->text.at + at, length));
         HOLDS(hunkravy_state_decrypt_in_place_unverified(&st, mc, length) == HUNKRAVY_OK);
         HOLDS(are_equal(mc, to, length) && is_same(&st, &copy));

@@ -33,10 +33,9 @@ from ._ciphers import (
 )
 from ._files import SealedFileError, SealedReader, SealedWriter, read_key
 from ._macs import Aegis128LMac, Aegis128X2Mac, Aegis128X4Mac, Aegis256Mac, Aegis256X2Mac, Aegis256X4Mac, Mac
-from ._native import LEVEL as _LEVEL, InvalidTag
+from ._native import LEVEL as _LEVEL, VERSION as __version__, InvalidTag
 from ._random_access import RandomAccessError, RandomAccessFile, RandomAccessStream
 from ._records import RecordError, RecordOpener, RecordSealer
-from ._version import VERSION as __version__
 
 __all__ = [
     "Aegis128L",

@@ -12,16 +12,8 @@ from types import TracebackType
 from typing import TYPE_CHECKING, Any, BinaryIO, NoReturn, Optional, Self, Union
 
 from . import _native, _turns as turns, _variants as variants
-from ._records import (
-    HEAD_BYTES,
-    HEADER,
-    PREFIX_BYTES,
-    RECORD_BYTES,
-    TAG_BYTES,
-    Fault,
-    RecordError,
-    length_of_record,
-)
+from ._native import HEAD_BYTES, PREFIX_BYTES, RECORD_BYTES
+from ._records import HEADER, TAG_BYTES, Fault, RecordError, length_of_record
 
 if TYPE_CHECKING:
     from _typeshed import ReadableBuffer as _ReadableBuffer, WriteableBuffer as _WriteableBuffer

@@ -9,8 +9,14 @@ from _typeshed import ReadableBuffer as Buffer
 from ._variants import Variant
 
 LEVEL: Final[int]
+VERSION: Final[str]
+
+PREFIX_BYTES: Final[int]
+HEAD_BYTES: Final[int]
+RECORD_BYTES: Final[int]
 
 def forks() -> int: ...
+def record_length(head: bytes, /) -> int: ...
 
 class InvalidTag(Exception): ...
 

@@ -7,16 +7,13 @@ import os
 from typing import TYPE_CHECKING, Callable, ClassVar, Optional, Self
 
 from . import _native, _turns as turns, _variants as variants
+from ._native import HEAD_BYTES, PREFIX_BYTES, RECORD_BYTES
 
 if TYPE_CHECKING:
     from _typeshed import ReadableBuffer as _ReadableBuffer
 
-PREFIX_BYTES = 24
 HEADER = b"AGR2"
-HEAD_BYTES = 5
-TAG_BYTES = 32
-RECORD_BYTES = HEAD_BYTES + TAG_BYTES
-MOST_MESSAGE_BYTES = 1 << 24
+TAG_BYTES = RECORD_BYTES - HEAD_BYTES
 
 
 class Fault(ValueError):
@@ -58,14 +55,12 @@ def stream_of(key: _ReadableBuffer, prefix: _ReadableBuffer, context: _ReadableB
 
 def length_of_record(head: bytes, fault: Callable[[str], Exception]) -> int:
     """Returns the length of a record from its head, which is not verified, or raises the fault with its cause."""
-    if head[:1] > b"\1":
-        raise fault("flag")
+    length = _native.record_length(bytes(head[:HEAD_BYTES].ljust(HEAD_BYTES, b"\0")))
+    if length < 0:
+        raise fault("flag" if head[0] > 1 else "too_long")
     if len(head) < HEAD_BYTES:
         raise fault("truncated")
-    length = int.from_bytes(head[1:HEAD_BYTES], "little")
-    if length > MOST_MESSAGE_BYTES:
-        raise fault("too_long")
-    return RECORD_BYTES + length
+    return length
 
 
 class RecordSealer(variants.Secret):

@@ -10,15 +10,11 @@
 
 #include <pthread.h>
 
-#include "hunkravy.h"
 #include "hunkravy_records.h"
 
 /* The longest keys and nonces, and the longest tags. */
 #define MOST_KEY_BYTES HUNKRAVY_AEGIS256_KEY_BYTES
 #define MOST_TAG_BYTES HUNKRAVY_LONG_TAG_BYTES
-
-/* Work on fewer bytes takes less time than releasing the interpreter's lock may cost. */
-#define RELEASE_FROM 4096
 
 /* ---- What the types share */
 
@@ -37,67 +33,17 @@ static void *result_of(void *object, int code, void *result)
     return NULL;
 }
 
-/* Returns whether a length is right. If it is not, sets an exception. */
-static bool has_length(const char *name, Py_ssize_t found, size_t length)
-{
-    if ((size_t)found != length) {
-        PyErr_Format(PyExc_ValueError, "%s must have %zu bytes, not %zd", name, length, found);
-    }
-    return (size_t)found == length;
-}
-
-/* Copies bytes, of which there may be none, at a null pointer. The places may overlap. */
-static void copy(uint8_t *to, const void *from, size_t length)
-{
-    if (length != 0) {
-        memmove(to, from, length);
-    }
-}
-
-/* Releases the interpreter's lock if work on so many bytes is long enough. Returns what `end_work` needs. */
-static PyThreadState *begin_work(size_t length)
-{
-    return length < RELEASE_FROM ? NULL : PyEval_SaveThread();
-}
-
-static void end_work(PyThreadState *released)
-{
-    if (released != NULL) {
-        PyEval_RestoreThread(released);
-    }
-}
-
 /*
- * The same with the lock of an object. If it has to wait for that, the interpreter's lock is released in any case. A thread
- * that has an object's lock never waits for the interpreter's: once the interpreter ends, it would have both forever.
+ * Returns where to read data that are processed at `to`: `bytes` where they are, and any others at `to`, where they are
+ * copied with the interpreter's lock, so that no thread of Python can change them meanwhile.
  */
-static PyThreadState *lock(void *object, size_t length)
+static const uint8_t *source(const Py_buffer *data, uint8_t *to, size_t length)
 {
-    PyThread_type_lock own = ((Locked *)object)->lock;
-    if (PyThread_acquire_lock(own, NOWAIT_LOCK)) {
-        return begin_work(length);
+    if (PyBytes_CheckExact(data->obj)) {
+        return data->buf;
     }
-    PyThreadState *released = PyEval_SaveThread();
-    PyThread_acquire_lock(own, WAIT_LOCK);
-    return released;
-}
-
-static void unlock(void *object, PyThreadState *released)
-{
-    PyThread_release_lock(((Locked *)object)->lock);
-    end_work(released);
-}
-
-/* Overwrites and frees an object of so many bytes. */
-static void free_object(PyObject *object, size_t length)
-{
-    PyTypeObject *type = Py_TYPE(object);
-    if (((Locked *)object)->lock != NULL) {
-        PyThread_free_lock(((Locked *)object)->lock);
-    }
-    hunkravy_wipe((uint8_t *)object + sizeof(PyObject), length - sizeof(PyObject));
-    PyObject_Free(object);
-    Py_DECREF(type);
+    copy(to, data->buf, length);
+    return to;
 }
 
 /* ---- A message in chunks, or a MAC. The library knows which, and returns an error for the functions of another. */
@@ -150,9 +96,9 @@ static PyObject *encrypt_chunk(State *self, const Py_buffer *data)
     if (result == NULL) {
         return NULL;
     }
-    copy(out, data->buf, length);
+    const uint8_t *from = source(data, out, length);
     PyThreadState *released = lock(self, length);
-    int code = hunkravy_state_encrypt_in_place(&self->state, out, length);
+    int code = hunkravy_state_encrypt(&self->state, out, from, length);
     unlock(self, released);
     return result_of(self, code, result);
 }
@@ -166,9 +112,9 @@ static PyObject *decrypt_chunk(State *self, const Py_buffer *data)
         return PyErr_NoMemory();
     }
     chunk->length = length;
-    copy(chunk->bytes, data->buf, length);
+    const uint8_t *from = source(data, chunk->bytes, length);
     PyThreadState *released = lock(self, length);
-    int code = hunkravy_state_decrypt_in_place_unverified(&self->state, chunk->bytes, length);
+    int code = hunkravy_state_decrypt_unverified(&self->state, chunk->bytes, from, length);
     if (code == HUNKRAVY_OK && length != 0) {
         chunk->previous = self->last;
         self->last = chunk;
@@ -377,7 +323,7 @@ static bool check(Cipher *self, const Arguments *arguments, bool is_decrypted, s
 
 /*
  * Encrypts to `out`, with the tag after the ciphertext, or decrypts the bytes in front of their tag. The nonce and the
- * data are copied first, with the interpreter's lock, so no thread of Python can change them meanwhile.
+ * tag are copied first, with the interpreter's lock.
  */
 static int transform(
     const Cipher *self, const Arguments *arguments, const uint8_t *associated, uint8_t *out, bool is_decrypted)
@@ -389,12 +335,12 @@ static int transform(
     if (is_decrypted) {
         memcpy(tag, (const uint8_t *)arguments->data.buf + length, self->tag_bytes);
     }
-    copy(out, arguments->data.buf, length);
+    const uint8_t *from = source(&arguments->data, out, length);
     PyThreadState *released = begin_work(length + associated_length);
-    int code = is_decrypted ? hunkravy_decrypt_in_place(self->variant, out, length, associated, associated_length,
-                                  nonce, key_bytes, self->key, key_bytes, tag, self->tag_bytes)
-                            : hunkravy_encrypt_in_place(self->variant, out, length, associated, associated_length,
-                                  nonce, key_bytes, self->key, key_bytes, out + length, self->tag_bytes);
+    int code = is_decrypted ? hunkravy_decrypt(self->variant, out, from, length, associated, associated_length, nonce,
+                                  key_bytes, self->key, key_bytes, tag, self->tag_bytes)
+                            : hunkravy_encrypt(self->variant, out, from, length, associated, associated_length, nonce,
+                                  key_bytes, self->key, key_bytes, out + length, self->tag_bytes);
     end_work(released);
     return code;
 }
@@ -641,7 +587,23 @@ static PyObject *count_of_forks(PyObject *module, PyObject *none)
     return PyLong_FromUnsignedLong(forks);
 }
 
-static PyMethodDef functions[] = {{"forks", count_of_forks, METH_NOARGS, NULL}, {NULL, NULL, 0, NULL}};
+/* Returns the length of a record with this head, in any stream, or a code. It is not verified. */
+static PyObject *record_length(PyObject *module, PyObject *head)
+{
+    static const uint8_t no_key[HUNKRAVY_RECORD_KEY_BYTES];
+    hunkravy_record_stream stream;
+    size_t length = 0;
+    int code = hunkravy_record_begin_open_at(&stream, no_key, no_key, NULL, 0, 0, 0);
+    (void)module;
+    if (PyBytes_Size(head) != HUNKRAVY_RECORD_HEAD_BYTES) {
+        return PyErr_Occurred() ? NULL : PyLong_FromLong(HUNKRAVY_WRONG_RECORD_LENGTH);
+    }
+    code = code == HUNKRAVY_OK ? hunkravy_record_len(&stream, (uint8_t *)PyBytes_AsString(head), &length) : code;
+    return PyLong_FromLong(code == HUNKRAVY_OK ? (long)length : code);
+}
+
+static PyMethodDef functions[] = {{"forks", count_of_forks, METH_NOARGS, NULL},
+    {"record_length", record_length, METH_O, NULL}, {NULL, NULL, 0, NULL}};
 
 static PyType_Slot cipher_slots[] = {
     {Py_tp_new, SLOT(cipher_new)}, {Py_tp_dealloc, SLOT(cipher_free)}, {Py_tp_methods, cipher_methods}, {0, NULL}};
@@ -687,6 +649,10 @@ static int execute(PyObject *object)
             Py_XDECREF(type);
         }
     }
+    result = result < 0 ? result : PyModule_AddIntConstant(object, "PREFIX_BYTES", HUNKRAVY_RECORD_PREFIX_BYTES);
+    result = result < 0 ? result : PyModule_AddIntConstant(object, "HEAD_BYTES", HUNKRAVY_RECORD_HEAD_BYTES);
+    result = result < 0 ? result : PyModule_AddIntConstant(object, "RECORD_BYTES", HUNKRAVY_RECORD_BYTES);
+    result = result < 0 ? result : PyModule_AddStringConstant(object, "VERSION", HUNKRAVY_VERSION);
     return result;
 }
 

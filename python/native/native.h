@@ -10,6 +10,8 @@
 #include <stdlib.h>
 #include <string.h>
 
+#include "hunkravy.h"
+
 /* Slots of types have functions as `void *`, which POSIX converts to and ISO C does not. */
 #define SLOT(function) (__extension__(void *)(function))
 
@@ -57,6 +59,72 @@ static inline bool is_usable(void *object)
         PyThread_release_lock(self->lock);
     }
     return true;
+}
+
+/* Work on fewer bytes takes less time than releasing the interpreter's lock may cost. */
+#define RELEASE_FROM 4096
+
+/* Returns whether a length is right. If it is not, sets an exception. */
+static inline bool has_length(const char *name, Py_ssize_t found, size_t length)
+{
+    if ((size_t)found != length) {
+        PyErr_Format(PyExc_ValueError, "%s must have %zu bytes, not %zd", name, length, found);
+    }
+    return (size_t)found == length;
+}
+
+/* Copies bytes, of which there may be none, at a null pointer. The places may overlap. */
+static inline void copy(uint8_t *to, const void *from, size_t length)
+{
+    if (length != 0) {
+        memmove(to, from, length);
+    }
+}
+
+/* Releases the interpreter's lock if work on so many bytes is long enough. Returns what `end_work` needs. */
+static inline PyThreadState *begin_work(size_t length)
+{
+    return length < RELEASE_FROM ? NULL : PyEval_SaveThread();
+}
+
+static inline void end_work(PyThreadState *released)
+{
+    if (released != NULL) {
+        PyEval_RestoreThread(released);
+    }
+}
+
+/*
+ * Takes the lock of an object, and begins work. If it has to wait, the interpreter's lock is released in any case. A thread
+ * that has an object's lock never waits for the interpreter's: once the interpreter ends, it would have both forever.
+ */
+static inline PyThreadState *lock(void *object, size_t length)
+{
+    PyThread_type_lock own = ((Locked *)object)->lock;
+    if (PyThread_acquire_lock(own, NOWAIT_LOCK)) {
+        return begin_work(length);
+    }
+    PyThreadState *released = PyEval_SaveThread();
+    PyThread_acquire_lock(own, WAIT_LOCK);
+    return released;
+}
+
+static inline void unlock(void *object, PyThreadState *released)
+{
+    PyThread_release_lock(((Locked *)object)->lock);
+    end_work(released);
+}
+
+/* Overwrites and frees an object of so many bytes. */
+static inline void free_object(PyObject *object, size_t length)
+{
+    PyTypeObject *type = Py_TYPE(object);
+    if (((Locked *)object)->lock != NULL) {
+        PyThread_free_lock(((Locked *)object)->lock);
+    }
+    hunkravy_wipe((uint8_t *)object + sizeof(PyObject), length - sizeof(PyObject));
+    PyObject_Free(object);
+    Py_DECREF(type);
 }
 
 /* Makes bytes, which are written at `*out`. */

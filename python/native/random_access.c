@@ -200,7 +200,9 @@ static uint32_t variant_of(PyObject *cipher)
 {
     uint64_t number = UINT32_MAX;
     PyObject *found = PyObject_GetAttrString(cipher, "_VARIANT");
-    if (found != NULL && natural(found, &number) && number > UINT32_MAX) {
+    if (found == NULL && PyErr_ExceptionMatches(PyExc_AttributeError)) {
+        PyErr_Clear();
+    } else if (found != NULL && natural(found, &number) && number > UINT32_MAX) {
         number = UINT32_MAX;
     }
     Py_XDECREF(found);
@@ -280,8 +282,9 @@ static PyObject *file_create(PyObject *type, PyObject *given, PyObject *named)
 }
 
 /*
- * Closes the file, after a commit if `commits`, or after its changes are discarded if `discards`. In a forked process nobody can wait for the lock of a file: a thread of the
- * other process may have it for ever, and what that was doing is half done here. Then the memory is left as it is.
+ * Closes the file, after a commit if `commits`, or after its changes are discarded if `discards`. In a forked process nobody
+ * can wait for the lock of a file: a thread of the other process may have it for ever, and what that was doing is half done
+ * here. Then the memory is left as it is.
  */
 static PyObject *close_file(File *self, bool commits, bool discards)
 {

@@ -221,7 +221,3 @@ class Errors(unittest.TestCase):
             self.assertRaises(ValueError, decryptor.finalize, wrong)
         self.assertEqual(decryptor.finalize(tag), b"a message")
         mac.verify(Aegis256Mac(KEY, b"a message").digest())
-
-
-if __name__ == "__main__":
-    unittest.main()

@@ -39,7 +39,8 @@ def opened_records(case: Case) -> list[bytes] | str:
     try:
         return read(opener, file)
     except RecordError as error:
-        for call in (lambda: opener.open(bytes(37)), lambda: opener.record_length(bytes(5)), opener.finish):
+        calls: list[Callable[[], object]] = [lambda: opener.open(bytes(37)), lambda: opener.record_length(bytes(5)), opener.finish]
+        for call in calls:
             with unittest.TestCase().assertRaises(RecordError) as again:
                 call()
             assert again.exception.args == error.args, "it stays"

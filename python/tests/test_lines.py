@@ -97,7 +97,3 @@ class Macs(unittest.TestCase):
                 self.assertRaises(hunkravy.InvalidTag, mac.verify, forged)
             count += 1
         self.assertGreater(count, 50)
-
-
-if __name__ == "__main__":
-    unittest.main()

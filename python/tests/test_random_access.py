@@ -243,13 +243,15 @@ class Files(unittest.TestCase):
 
         class Seeker:
             def __del__(self) -> None:
-                sought.extend(found.__exit__(None, None, None) for found in gc.get_objects() if type(found) is Batch)
+                batches: list[Any] = [found for found in gc.get_objects() if type(found) is Batch]
+                sought.extend(found.__exit__(None, None, None) for found in batches)
 
         class Maker:
             def __del__(self) -> None:
                 self.made = Seeker()
 
-        Batch, sought = _native.Batch, []
+        Batch = _native.Batch
+        sought: list[None] = []
         gc.collect()
         with RandomAccessFile.create(self.path, KEY) as file:
             batch, maker = file.batch(), Maker()
@@ -448,7 +450,7 @@ class Files(unittest.TestCase):
         for size in (8 << 20, 9 << 20):
             file = RandomAccessFile(self.path, KEY, check_same_thread=False)
             file.write_at(0, bytes(size))
-            second = file if size == 8 << 20 else file.open_stream()
+            second: Any = file if size == 8 << 20 else file.open_stream()
             with concurrent.futures.ThreadPoolExecutor(1) as other:
                 closed = other.submit(file.close)
                 while not file.closed:
@@ -523,6 +525,8 @@ class Files(unittest.TestCase):
                 RandomAccessFile.create(self.path, KEY, cipher=cipher)
             with self.assertRaises((TypeError, ValueError, OverflowError), msg=str(variant)):
                 _native.Cipher(variant, KEY, 32)
+        for other in (None, 3, "Aegis256", object):
+            self.assertRaises(TypeError, RandomAccessFile.create, self.path, KEY, cipher=other)
         self.assertEqual(os.listdir(self.folder), [])
         for size in (256, 65_536):
             RandomAccessFile.create(self.folder / str(size), KEY, page_size=size).close()
@@ -535,6 +539,7 @@ class Files(unittest.TestCase):
             stream = file.open_stream()
             with contextlib.suppress(ZeroDivisionError), file.batch():
                 stream.write(b"lost")
+                stream.flush()
                 1 / 0
             self.assertEqual((stream.tell(), file.size), (4, 3))
 
@@ -635,7 +640,3 @@ class Files(unittest.TestCase):
         with RandomAccessFile.create(self.path, KEY) as file:
             for each in (file, file.open_stream()):
                 self.assertRaises(TypeError, copy.copy, each)
-
-
-if __name__ == "__main__":
-    unittest.main()

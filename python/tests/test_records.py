@@ -71,7 +71,8 @@ class Streams(unittest.TestCase):
         before, records = opener.position, opener._records
         opener._records = mock.Mock(open=interrupted)
         self.assertRaises(KeyError, opener.open, first)
-        for call in (lambda: opener.open(last), opener.finish, lambda: opener.record_length(bytes(5))):
+        calls: list[Callable[[], object]] = [lambda: opener.open(last), opener.finish, lambda: opener.record_length(bytes(5))]
+        for call in calls:
             self.assertRaisesRegex(RuntimeError, "while a record was opened", call)
         self.assertEqual(RecordOpener.at(KEY, PREFIX, CONTEXT, *before).open(first), b"one")
 
@@ -113,7 +114,3 @@ class Streams(unittest.TestCase):
                 except RecordError:
                     pass
         self.assertEqual(numbers, set(range(50)))
-
-
-if __name__ == "__main__":
-    unittest.main()

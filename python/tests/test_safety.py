@@ -345,7 +345,3 @@ for end in (lambda: decryptor.finalize(ciphertext[-32:]), lambda: decryptor.fina
     del decryptor
     assert message[64:128] not in ctypes.string_at(place, len(message)), end
 """
-
-
-if __name__ == "__main__":
-    unittest.main()

@@ -98,7 +98,3 @@ class Example(unittest.TestCase):
         self.assertGreater(len(wrong), 500)
         for tokens, altered, now in wrong:
             self.assertRaises(self.invalid, tokens.read, altered, now=now)
-
-
-if __name__ == "__main__":
-    unittest.main()

@@ -313,7 +313,3 @@ reader = SealedReader(Slow(file.getvalue()), bytes(32)); work, call = (lambda: r
             for place in ('sys.modules["kept"]', "sys.last_object"):
                 with self.subTest(objects, place=place):
                     self.assertEqual(self.ends(objects, place), "raised")
-
-
-if __name__ == "__main__":
-    unittest.main()

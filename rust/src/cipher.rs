@@ -4,6 +4,7 @@ use crate::error::{accepted, done};
 use crate::exports::{self, State};
 use crate::variant::assert_tag_bytes;
 use crate::{Decryptor, Encryptor, Error, Tag, Variant};
+use alloc::vec;
 use alloc::vec::Vec;
 
 /// A cipher with tags of `TAG_BYTES` bytes, 16 or 32: a key and a nonce.
@@ -59,9 +60,9 @@ impl<V: Variant, const TAG_BYTES: usize> Cipher<V, TAG_BYTES> {
     #[track_caller]
     #[must_use = "the message cannot be decrypted without its tag"]
     pub fn encrypt(self, m: &[u8], ad: &[u8]) -> (Vec<u8>, Tag<TAG_BYTES>) {
-        let mut mc = m.to_vec();
-        let tag = self.encrypt_in_place(&mut mc, ad);
-        (mc, tag)
+        let (mut c, mut tag) = (vec![0; m.len()], [0; TAG_BYTES]);
+        done(exports::encrypt(V::NUMBER, &mut c, m, ad, self.nonce.as_ref(), self.key.as_ref(), &mut tag));
+        (c, tag)
     }
 
     /// Encrypts the message at `mc` in place. Returns its tag, which authenticates the associated data `ad` too.
@@ -69,8 +70,7 @@ impl<V: Variant, const TAG_BYTES: usize> Cipher<V, TAG_BYTES> {
     #[must_use = "the message cannot be decrypted without its tag"]
     pub fn encrypt_in_place(self, mc: &mut [u8], ad: &[u8]) -> Tag<TAG_BYTES> {
         let mut tag = [0; TAG_BYTES];
-        let (nonce, key) = (self.nonce.as_ref(), self.key.as_ref());
-        done(exports::encrypt_in_place(V::NUMBER, mc, ad, nonce, key, &mut tag));
+        done(exports::encrypt_in_place(V::NUMBER, mc, ad, self.nonce.as_ref(), self.key.as_ref(), &mut tag));
         tag
     }
 
@@ -81,9 +81,9 @@ impl<V: Variant, const TAG_BYTES: usize> Cipher<V, TAG_BYTES> {
     /// [`Error::InvalidTag`] if authentication fails.
     #[track_caller]
     pub fn decrypt(self, c: &[u8], tag: &Tag<TAG_BYTES>, ad: &[u8]) -> Result<Vec<u8>, Error> {
-        let mut mc = c.to_vec();
-        self.decrypt_in_place(&mut mc, tag, ad)?;
-        Ok(mc)
+        let mut m = vec![0; c.len()];
+        accepted(exports::decrypt(V::NUMBER, &mut m, c, ad, self.nonce.as_ref(), self.key.as_ref(), tag))?;
+        Ok(m)
     }
 
     /// Decrypts the ciphertext at `mc` in place. The comparison of the tags does not stop at the first difference.
@@ -103,8 +103,7 @@ impl<V: Variant, const TAG_BYTES: usize> Cipher<V, TAG_BYTES> {
     /// ```
     #[track_caller]
     pub fn decrypt_in_place(self, mc: &mut [u8], tag: &Tag<TAG_BYTES>, ad: &[u8]) -> Result<(), Error> {
-        let (nonce, key) = (self.nonce.as_ref(), self.key.as_ref());
-        accepted(exports::decrypt_in_place(V::NUMBER, mc, ad, nonce, key, tag))
+        accepted(exports::decrypt_in_place(V::NUMBER, mc, ad, self.nonce.as_ref(), self.key.as_ref(), tag))
     }
 
     /// Fills `out` with the beginning of the keystream. `TAG_BYTES` has no effect on it.
@@ -119,8 +118,7 @@ impl<V: Variant, const TAG_BYTES: usize> Cipher<V, TAG_BYTES> {
     /// assert_eq!(keystream, zeros);
     /// ```
     pub fn stream(self, out: &mut [u8]) {
-        let (nonce, key) = (self.nonce.as_ref(), self.key.as_ref());
-        done(exports::stream(V::NUMBER, out, nonce, key));
+        done(exports::stream(V::NUMBER, out, self.nonce.as_ref(), self.key.as_ref()));
     }
 
     /// Returns a message xored with the keystream from its beginning. There is no tag, so changes are not detected.
@@ -141,8 +139,7 @@ impl<V: Variant, const TAG_BYTES: usize> Cipher<V, TAG_BYTES> {
 
     /// Xors the bytes at `mc` with the keystream from its beginning. Calling it twice restores them.
     pub fn stream_xor_in_place(self, mc: &mut [u8]) {
-        let (nonce, key) = (self.nonce.as_ref(), self.key.as_ref());
-        done(exports::stream_xor_in_place(V::NUMBER, mc, nonce, key));
+        done(exports::stream_xor_in_place(V::NUMBER, mc, self.nonce.as_ref(), self.key.as_ref()));
     }
 
     /// Begins to encrypt a message in chunks.
@@ -197,8 +194,7 @@ impl<V: Variant, const TAG_BYTES: usize> Cipher<V, TAG_BYTES> {
     #[track_caller]
     fn begin(&self, ad: &[u8]) -> State {
         let mut state = State::ENDED;
-        let (nonce, key) = (self.nonce.as_ref(), self.key.as_ref());
-        done(exports::state_init(V::NUMBER, &mut state, ad, nonce, key));
+        done(exports::state_init(V::NUMBER, &mut state, ad, self.nonce.as_ref(), self.key.as_ref()));
         state
     }
 }

@@ -70,8 +70,7 @@ impl<'a, V: Variant, const TAG_BYTES: usize> Decryptor<'a, V, TAG_BYTES> {
         }
         // It is counted first, so that it is erased in any case.
         self.written += ciphertext.len();
-        chunk.copy_from_slice(ciphertext);
-        done(exports::state_decrypt_in_place_unverified(&mut self.state, chunk));
+        done(exports::state_decrypt_unverified(&mut self.state, chunk, ciphertext));
         Ok(())
     }
 

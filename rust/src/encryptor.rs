@@ -48,8 +48,7 @@ impl<V: Variant, const TAG_BYTES: usize> Encryptor<V, TAG_BYTES> {
     pub fn update(&mut self, plaintext: &[u8], ciphertext: &mut [u8]) {
         assert_eq!(plaintext.len(), ciphertext.len(), "the buffers must have equal length");
         assert!(plaintext.len() as u64 <= self.remaining(), "the message is longer than 2^61 - 1 bytes");
-        ciphertext.copy_from_slice(plaintext);
-        self.update_in_place(ciphertext);
+        done(exports::state_encrypt(&mut self.state, ciphertext, plaintext));
     }
 
     /// Encrypts the next chunk in place.

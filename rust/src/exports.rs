@@ -56,31 +56,38 @@ impl Slice for Out<'_> {
 }
 
 /// Declares functions of the library, and a safe function over each. An argument is a value, or in brackets a slice, which the
-/// library takes as a pointer and a length.
+/// library takes as a pointer and a length. With `&mut to` the library takes the pointer of an output of this length first.
 macro_rules! exports {
-    ($($name:ident$(<$life:lifetime>)?($($([$bytes:ident: $slice:ty])? $($value:ident: $type:ty)?),*);)*) => {
+    ($($name:ident$(<$life:lifetime>)?($($([$(&mut $to:ident,)? $bytes:ident: $slice:ty])? $($value:ident: $type:ty)?),*);)*) => {
         mod c {
             use super::*;
 
             unsafe extern "C" {$(
                 #[link_name = concat!("hunkravy_", stringify!($name))]
-                pub fn $name$(<$life>)?($($(_: <$slice as Slice>::Pointer, _: usize)? $(_: $type)?),*) -> i32;
+                pub fn $name$(<$life>)?(
+                    $($($($to: *mut u8,)? _: <$slice as Slice>::Pointer, _: usize)? $(_: $type)?),*
+                ) -> i32;
             )*}
         }
         $(
             #[allow(clippy::too_many_arguments)]
-            pub fn $name$(<$life>)?($($($bytes: $slice)? $($value: $type)?),*) -> Answer {
-                $($(let $bytes = $bytes.parts();)?)*
+            pub fn $name$(<$life>)?($($($($to: Out,)? $bytes: $slice)? $($value: $type)?),*) -> Answer {
+                $($($(
+                    assert_eq!($to.len(), $bytes.len());
+                    let $to = $to.as_mut_ptr();
+                )? let $bytes = $bytes.parts();)?)*
                 // SAFETY: each pointer is that of a borrowed slice of the length after it, or of a borrowed value of the length that
                 // the library reads or writes. What is written to is borrowed exclusively. A state is a struct of numbers and bytes,
                 // of which the library takes any; a stream borrows its context for as long as it points to it.
-                read(unsafe { c::$name($($($bytes.0, $bytes.1)? $($value)?),*) })
+                read(unsafe { c::$name($($($($to,)? $bytes.0, $bytes.1)? $($value)?),*) })
             }
         )*
     };
 }
 
 exports! {
+    encrypt(variant: u32, [&mut c, m: In], [ad: In], [npub: In], [k: In], [mac: Out]);
+    decrypt(variant: u32, [&mut m, c: In], [ad: In], [npub: In], [k: In], [mac: In]);
     encrypt_in_place(variant: u32, [mc: Out], [ad: In], [npub: In], [k: In], [mac: Out]);
     decrypt_in_place(variant: u32, [mc: Out], [ad: In], [npub: In], [k: In], [mac: In]);
     stream(variant: u32, [out: Out], [npub: In], [k: In]);
@@ -88,8 +95,9 @@ exports! {
     mac(variant: u32, [input: In], [npub: In], [k: In], [mac: Out]);
     state_init(variant: u32, st: &mut State, [ad: In], [npub: In], [k: In]);
     state_encrypt_in_place(st: &mut State, [mc: Out]);
+    state_encrypt(st: &mut State, [&mut c, m: In]);
     state_encrypt_final(st: &mut State, [mac: Out]);
-    state_decrypt_in_place_unverified(st: &mut State, [mc: Out]);
+    state_decrypt_unverified(st: &mut State, [&mut m, c: In]);
     state_decrypt_final(st: &mut State, [m: Out], [mac: In]);
     mac_init(variant: u32, st: &mut State, [npub: In], [k: In]);
     mac_update(st: &mut State, [input: In]);
@@ -122,6 +130,7 @@ unsafe extern "C" {
     fn hunkravy_wipe(bytes: *mut u8, length: usize);
     /// Holds the standard descriptors that the program has closed, so that no file gets one. Returns an error number, or 0.
     pub safe fn hunkravy_hold_descriptors() -> i32;
+    pub safe fn hunkravy_page_place(variant: u32, page_size: u32, number: u64) -> u64;
     pub safe fn hunkravy_commit_step(number: u64, writes: u64, write: &mut u64) -> u32;
     pub safe fn hunkravy_recovery_step(number: u64, writes: u64, write: &mut u64) -> u32;
 }

@@ -35,8 +35,6 @@ mod mac;
 mod memory;
 #[cfg(feature = "raf-core")]
 pub mod raf;
-#[cfg(feature = "std")]
-mod random;
 pub mod records;
 mod variant;
 mod wipe;
@@ -47,7 +45,17 @@ pub use encryptor::Encryptor;
 pub use error::{Error, MAX_AEAD_BYTES};
 pub use exports::ERASED;
 pub use mac::Mac;
-#[cfg(feature = "std")]
-pub use random::fill_random;
 pub use variant::{Tag, Variant, variants};
 pub use variant::{aegis128l, aegis128x2, aegis128x4, aegis256, aegis256x2, aegis256x4};
+
+/// Fills a key, a nonce or a prefix with random bytes of the system, by `getrandom`.
+///
+/// Early after a boot it waits until the system has seeded its source.
+///
+/// # Errors
+///
+/// If the system has no such source. Do not use `buf` then.
+#[cfg(feature = "std")]
+pub fn fill_random(buf: &mut [u8]) -> std::io::Result<()> {
+    exports::fill_random(buf).map_err(|refusal| std::io::Error::from_raw_os_error(refusal.0))
+}

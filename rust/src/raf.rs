@@ -46,10 +46,10 @@ mod derive;
 #[cfg_attr(c_engine, path = "../tests/c_engine/engine.rs")]
 mod engine;
 mod error;
+mod file;
 mod io;
 mod journal;
 mod layout;
-mod probe;
 mod recovery;
 mod rng;
 mod system;
@@ -61,8 +61,9 @@ pub use builder::RafBuilder;
 pub use cursor::RafCursor;
 pub use derive::derive_key;
 pub use error::{Error, Result};
-pub use io::{Beside, FileIo, JournalChoice, JournalFile, NoJournal, RafIo};
-pub use probe::{AlgorithmId, RafInfo, probe};
+pub use file::{Beside, FileIo, JournalFile};
+pub use io::{JournalChoice, NoJournal, RafIo};
+pub use layout::{AlgorithmId, RafInfo, probe};
 #[cfg(not(feature = "raf"))]
 pub use rng::NoRng;
 #[cfg(feature = "raf")]

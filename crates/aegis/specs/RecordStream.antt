@@ -85,8 +85,7 @@ records_length ms = 4 + frames_length ms
 
 -- ---- laws
 
--- Two streams that the same bytes begin with are one stream, and the same bytes follow it. So no bytes are the streams of two
--- lists or two versions, and no stream is a proper beginning of another.
+-- Two streams that the same bytes begin with are one: no bytes are the streams of two lists, and no stream begins another.
 abbrev pub IsOneRecordStream : Sealing → Type 0
 IsOneRecordStream sealing =
     (v w : Version) (ms ns : List (List ℕ)) (a b x y : List ℕ)

@@ -18,7 +18,9 @@
 //! }
 //! ```
 
-pub use crate::record::laws::{one_fault, one_record_stream, record_limits, record_stream_lengths};
+pub use crate::record::laws::{
+    erased_message, one_fault, one_record_stream, record_limits, record_stream_lengths,
+};
 pub use aegis_base::laws::{
     bijection, ciphertext_prefix, init_of_one_lane, keystream_is_sealed_zeros, keystream_prefix,
     keystream_shared, keystream_xor_twice, lane_independence, limits, mac_of_tags, tag_lengths,

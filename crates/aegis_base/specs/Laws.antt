@@ -31,8 +31,7 @@ IsOnto variant =
 abbrev pub AgreeInLane : (d j : ℕ) (x y : List ℕ) → Type 0
 AgreeInLane d j x y = (i : ℕ) → lane_of d i ≡ j → slice_index x i ≡ slice_index y i
 
--- the bytes of a ciphertext at a lane's places depend only on the key, the nonce, the lengths, and the bytes of the
--- associated data and the message at that lane's places
+-- the bytes of a ciphertext at a lane's places depend on no bytes of associated data and message at other lanes' places
 abbrev pub AreLanesIndependent : (variant : Variant) → Type 0
 AreLanesIndependent variant =
     (key nonce ad₁ ad₂ m n : List ℕ) (j : ℕ)

@@ -1,5 +1,4 @@
--- MACs: each lane alone takes in its share of the input. Lane 0 then takes in the tags of the lanes, and its tag is the
--- MAC. `lanes` is a function from a lane's number to its blocks.
+-- MACs: each lane alone takes in its share of the input; lane 0 then takes in the lanes' tags. `lanes` has a lane's blocks.
 use Rattle.std.specs.Prelude.{ℕ, ◌-◌, ◌*◌, ◌==◌, List, [], ◌∷◌, if◌then◌else◌, length, map, replicate}
 use Rattle.std.specs.List.{concat, range_with_len}
 use Rattle.aegis_base.specs.Variant.{Family, Family128, Family256, Variant, rate}

@@ -2,8 +2,8 @@
 //!
 //! Each returns a code of `aegis_c_calls::refusal`. After a code for a variant or a length, nothing has changed.
 
-ghost use Rattle.std.specs.Prelude.{◌≡◌};
-ghost use Rattle.aegis_c_calls.specs.Calls.{DecryptInPlace, EncryptInPlace, Mac, MacVerify, Stream, StreamXorInPlace};
+ghost use Rattle.std.specs.Prelude.{◌≡◌, length};
+ghost use Rattle.aegis_c_calls.specs.Calls.{Decrypt, Encrypt, Mac, MacVerify, Stream, StreamXorInPlace};
 ghost use Rattle.aegis_c_calls.specs.Codes.{lengths_code, key_bytes_of, variant_of};
 
 use crate::by_variant::by_variant;
@@ -50,13 +50,35 @@ pub extern "C" fn hunkravy_proved_encrypt_in_place(
     k: &[u8],
     mac: &mut [u8],
 ) -> i32
-    ensures { EncryptInPlace (variant_of variant) k.now npub.now ad.now
-        mc.old mc.new mac.old mac.new result }
+    ensures { Encrypt (variant_of variant) k.now npub.now ad.now
+        mc.old mc.old mc.new mac.old mac.new result }
 {
     by_variant!(
         variant,
         Refusal::WrongVariant,
         calls::encrypt_in_place::<N>(mc, ad, npub, k, mac)
+    )
+}
+
+/// Encrypts `m` into `c`, which is as long, and writes the tag, of 16 or 32 bytes, to `mac`.
+#[unsafe(no_mangle)]
+pub extern "C" fn hunkravy_proved_encrypt(
+    variant: u32,
+    m: &[u8],
+    c: &mut [u8],
+    ad: &[u8],
+    npub: &[u8],
+    k: &[u8],
+    mac: &mut [u8],
+) -> i32
+    requires { length m.now ≡ length c.old }
+    ensures { Encrypt (variant_of variant) k.now npub.now ad.now
+        m.now c.old c.new mac.old mac.new result }
+{
+    by_variant!(
+        variant,
+        Refusal::WrongVariant,
+        calls::encrypt::<N>(m, c, ad, npub, k, mac)
     )
 }
 
@@ -70,13 +92,35 @@ pub extern "C" fn hunkravy_proved_decrypt_in_place(
     k: &[u8],
     mac: &[u8],
 ) -> i32
-    ensures { DecryptInPlace (variant_of variant) k.now npub.now ad.now
-        mc.old mc.new mac.now result }
+    ensures { Decrypt (variant_of variant) k.now npub.now ad.now
+        mc.old mc.old mc.new mac.now result }
 {
     by_variant!(
         variant,
         Refusal::WrongVariant,
         calls::decrypt_in_place::<N>(mc, ad, npub, k, mac)
+    )
+}
+
+/// Decrypts `c` into `m`, which is as long. If `mac` is not its tag, each byte of `m` is 0xaa, and the code is -1.
+#[unsafe(no_mangle)]
+pub extern "C" fn hunkravy_proved_decrypt(
+    variant: u32,
+    c: &[u8],
+    m: &mut [u8],
+    ad: &[u8],
+    npub: &[u8],
+    k: &[u8],
+    mac: &[u8],
+) -> i32
+    requires { length c.now ≡ length m.old }
+    ensures { Decrypt (variant_of variant) k.now npub.now ad.now
+        c.now m.old m.new mac.now result }
+{
+    by_variant!(
+        variant,
+        Refusal::WrongVariant,
+        calls::decrypt::<N>(c, m, ad, npub, k, mac)
     )
 }
 

@@ -4,7 +4,7 @@
 //! Each returns a code of `aegis_c_calls::refusal`. After a code but that of an invalid tag, nothing has changed.
 
 ghost use Rattle.aegis_c_calls.specs.Codes.{variant_of};
-ghost use Rattle.aegis_c_calls.specs.PageCalls.{PageHeaderOpen, PageHeaderSeal, PageOpen, PageSeal, header_of};
+ghost use Rattle.aegis_c_calls.specs.PageCalls.{PageHeaderOpen, PageHeaderSeal, PageOpen, PagePlace, PageSeal, header_of};
 
 use crate::by_variant::by_variant;
 use aegis_128::{State128X1, State128X2, State128X4};
@@ -12,6 +12,23 @@ use aegis_256::{State256X1, State256X2, State256X4};
 use aegis_c_calls::page as calls;
 use aegis_c_calls::refusal::{Refusal, code};
 use aegis_c_calls::variant::*;
+
+/// Finds the position of a page in a file of this page size.
+#[unsafe(no_mangle)]
+pub extern "C" fn hunkravy_proved_page_place(
+    variant: u32,
+    page_bytes: u32,
+    number: u64,
+    place: &mut u64,
+) -> i32
+    ensures { PagePlace (variant_of variant) page_bytes number place.old place.new result }
+{
+    by_variant!(
+        variant,
+        Refusal::WrongVariant,
+        calls::page_place::<N>(page_bytes, number, place)
+    )
+}
 
 /// Seals the contents of a page in place: `page` has as many bytes as a nonce, the contents, and 32 bytes.
 #[unsafe(no_mangle)]

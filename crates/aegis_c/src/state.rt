@@ -4,8 +4,8 @@
 //! Each returns a code of `aegis_c_calls::refusal`. After a code for a variant, a length or a state, nothing has
 //! changed.
 
-ghost use Rattle.std.specs.Prelude.{◌≡◌, []};
-ghost use Rattle.aegis_c_calls.specs.Calls.{Begins, MacFinal, MacFinalVerify, MacUpdate, StateDecryptCheck, StateDecryptFinal, StateDecryptInPlaceUnverified, StateEncryptFinal, StateEncryptInPlace};
+ghost use Rattle.std.specs.Prelude.{◌≡◌, [], length};
+ghost use Rattle.aegis_c_calls.specs.Calls.{Begins, MacFinal, MacFinalVerify, MacUpdate, StateDecryptCheck, StateDecryptFinal, StateDecryptUnverified, StateEncrypt, StateEncryptFinal};
 ghost use Rattle.aegis_c_calls.specs.Codes.{chunk_code, variant_of};
 
 use crate::by_variant::by_variant;
@@ -22,16 +22,32 @@ use aegis_c_calls::variant::*;
 
 #[inline(never)]
 fn encrypted<S: SavedLanes>(st: &mut State, mc: &mut [u8]) -> i32
-    ensures { StateEncryptInPlace (Some S.VARIANT) st.old st.new mc.old mc.new result }
+    ensures { StateEncrypt (Some S.VARIANT) st.old st.new mc.old mc.old mc.new result }
 {
-    code(calls::encrypt_in_place::<S>(st, mc))
+    code(calls::encrypt::<S>(st, None, mc))
+}
+
+#[inline(never)]
+fn encrypted_into<S: SavedLanes>(st: &mut State, m: &[u8], c: &mut [u8]) -> i32
+    requires { length m.now ≡ length c.old }
+    ensures { StateEncrypt (Some S.VARIANT) st.old st.new m.now c.old c.new result }
+{
+    code(calls::encrypt::<S>(st, Some(m), c))
 }
 
 #[inline(never)]
 fn decrypted<S: SavedLanes>(st: &mut State, mc: &mut [u8]) -> i32
-    ensures { StateDecryptInPlaceUnverified (Some S.VARIANT) st.old st.new mc.old mc.new result }
+    ensures { StateDecryptUnverified (Some S.VARIANT) st.old st.new mc.old mc.old mc.new result }
 {
-    code(calls::decrypt_in_place_unverified::<S>(st, mc))
+    code(calls::decrypt_unverified::<S>(st, None, mc))
+}
+
+#[inline(never)]
+fn decrypted_into<S: SavedLanes>(st: &mut State, c: &[u8], m: &mut [u8]) -> i32
+    requires { length c.now ≡ length m.old }
+    ensures { StateDecryptUnverified (Some S.VARIANT) st.old st.new c.now m.old m.new result }
+{
+    code(calls::decrypt_unverified::<S>(st, Some(c), m))
 }
 
 #[inline(never)]
@@ -95,9 +111,18 @@ pub extern "C" fn hunkravy_proved_state_may_decrypt(st: &State, clen: usize) -> 
 /// Encrypts the next bytes of the message in place.
 #[unsafe(no_mangle)]
 pub extern "C" fn hunkravy_proved_state_encrypt_in_place(st: &mut State, mc: &mut [u8]) -> i32
-    ensures { StateEncryptInPlace (variant_of st.old.variant) st.old st.new mc.old mc.new result }
+    ensures { StateEncrypt (variant_of st.old.variant) st.old st.new mc.old mc.old mc.new result }
 {
     by_variant!(st.variant, Refusal::WrongState, chunk encrypted(st, mc))
+}
+
+/// Encrypts the next bytes `m` of the message into `c`, which is as long.
+#[unsafe(no_mangle)]
+pub extern "C" fn hunkravy_proved_state_encrypt(st: &mut State, m: &[u8], c: &mut [u8]) -> i32
+    requires { length m.now ≡ length c.old }
+    ensures { StateEncrypt (variant_of st.old.variant) st.old st.new m.now c.old c.new result }
+{
+    by_variant!(st.variant, Refusal::WrongState, chunk encrypted_into(st, m, c))
 }
 
 /// Writes the tag of the message, of 16 or 32 bytes, to `mac`, and ends the state.
@@ -118,10 +143,24 @@ pub extern "C" fn hunkravy_proved_state_decrypt_in_place_unverified(
     st: &mut State,
     mc: &mut [u8],
 ) -> i32
-    ensures { StateDecryptInPlaceUnverified (variant_of st.old.variant) st.old st.new
-        mc.old mc.new result }
+    ensures { StateDecryptUnverified (variant_of st.old.variant) st.old st.new
+        mc.old mc.old mc.new result }
 {
     by_variant!(st.variant, Refusal::WrongState, chunk decrypted(st, mc))
+}
+
+/// Decrypts the next bytes `c` of the ciphertext into `m`, which is as long, before the tag is verified.
+#[unsafe(no_mangle)]
+pub extern "C" fn hunkravy_proved_state_decrypt_unverified(
+    st: &mut State,
+    c: &[u8],
+    m: &mut [u8],
+) -> i32
+    requires { length c.now ≡ length m.old }
+    ensures { StateDecryptUnverified (variant_of st.old.variant) st.old st.new c.now m.old m.new
+        result }
+{
+    by_variant!(st.variant, Refusal::WrongState, chunk decrypted_into(st, c, m))
 }
 
 /// Takes in the next bytes of the ciphertext, without writing the message.

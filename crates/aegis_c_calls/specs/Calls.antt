@@ -1,5 +1,6 @@
 -- What each call does, for the variant that its number names, or its state has: the code that it returns, and the bytes at its
--- pointers before and after it. If no variant has the number, it changes nothing. A record has the name of its call.
+-- pointers before and after it. If no variant has the number, it changes nothing. A record has the name of its call; one in
+-- place has that of the call for another buffer, whose input is what the buffer was.
 use Rattle.std.specs.Prelude.{◌≡◌, ◌≢◌, ℕ, ℤ, List, [], Option, length, replicate, ◌+◌, ◌-◌, leb, drop, if◌then◌else◌, ◌≤◌, ◌∷◌, ◌++◌}
 use Rattle.aegis_base.specs.Variant.{Variant, Family256, key_length, max_aead_bytes}
 use Rattle.aegis_base.specs.Mac.{mac}
@@ -13,19 +14,19 @@ use Rattle.aegis.specs.declared.record.version.Version.TheVariants.{Second}
 use Rattle.aegis_c_calls.specs.declared.record.state.RecordState.{RecordState}
 use Rattle.aegis.specs.RecordStream.{AreRecords, header, length_at, limit, start_at, record_overhead, prefix_bytes}
 
--- The call encrypts the message `old` to `new`, and overwrites `tag` with the tag; or it changes nothing.
-pub record EncryptInPlace (variant : Option Variant) (key nonce ad old new tag tag' : List ℕ) (code : ℤ) : Type 0 where
-  pub answered : code ≡ lengths_code variant (length key) (length nonce) (length old) (length ad) (length tag)
-  pub sealed : code ≡ success → (new, tag') ≡ seal (the variant) (length tag) key nonce ad old
+-- The call encrypts the message `plain` to `new`, over `old`, and overwrites `tag` with the tag; or it changes nothing.
+pub record Encrypt (variant : Option Variant) (key nonce ad plain old new tag tag' : List ℕ) (code : ℤ) : Type 0 where
+  pub answered : code ≡ lengths_code variant (length key) (length nonce) (length plain) (length ad) (length tag)
+  pub sealed : code ≡ success → (new, tag') ≡ seal (the variant) (length tag) key nonce ad plain
   pub kept : code ≢ success → (new ≡ old) × (tag' ≡ tag)
 
--- The call decrypts the ciphertext `old` to the message `new`. If no message is sealed to the ciphertext and the tag, it
--- erases every byte; and if a length is wrong, it changes nothing.
-pub record DecryptInPlace (variant : Option Variant) (key nonce ad old new tag : List ℕ) (code : ℤ) : Type 0 where
-  pub answered : code ≢ number_of InvalidTag → code ≡ lengths_code variant (length key) (length nonce) (length old) (length ad) (length tag)
-  pub lengths : code ≡ number_of InvalidTag → lengths_code variant (length key) (length nonce) (length old) (length ad) (length tag) ≡ success
-  pub opened : code ≡ success → Opens (the variant) (length tag) key nonce ad old tag new
-  pub accepted : (m : List ℕ) → Opens (the variant) (length tag) key nonce ad old tag m → code ≢ number_of InvalidTag
+-- The call decrypts the ciphertext `sealed`, and overwrites `old` with the message `new`. If no message is sealed to the
+-- ciphertext and the tag, it erases every byte; and if a length is wrong, it changes nothing.
+pub record Decrypt (variant : Option Variant) (key nonce ad sealed old new tag : List ℕ) (code : ℤ) : Type 0 where
+  pub answered : code ≢ number_of InvalidTag → code ≡ lengths_code variant (length key) (length nonce) (length sealed) (length ad) (length tag)
+  pub lengths : code ≡ number_of InvalidTag → lengths_code variant (length key) (length nonce) (length sealed) (length ad) (length tag) ≡ success
+  pub opened : code ≡ success → Opens (the variant) (length tag) key nonce ad sealed tag new
+  pub accepted : (m : List ℕ) → Opens (the variant) (length tag) key nonce ad sealed tag m → code ≢ number_of InvalidTag
   pub erased : code ≡ number_of InvalidTag → new ≡ replicate (length old) erased_byte
   pub kept : code ≢ success → code ≢ number_of InvalidTag → new ≡ old
 
@@ -69,24 +70,23 @@ pub record Begins (variant : Option Variant) (number role : ℕ) (key nonce ad :
   pub named : code ≡ success → (new.variant ≡ number) × (new.role ≡ role)
   pub kept : code ≢ success → new ≡ old
 
--- The call encrypts the next bytes `plain` of the message to `sealed`; or it changes nothing.
-pub record StateEncryptInPlace (variant : Option Variant) (old new : State) (plain sealed : List ℕ) (code : ℤ) : Type 0 where
+-- The call encrypts the next bytes `plain` of the message to `sealed`, over `before`; or it changes nothing.
+pub record StateEncrypt (variant : Option Variant) (old new : State) (plain before sealed : List ℕ) (code : ℤ) : Type 0 where
   pub answered : code ≡ chunk_code variant old message_role encrypting_role (length plain)
   pub taken : code ≡ success → HasTaken (the variant) old.context new.context plain
   pub written : code ≡ success → HasSealed (the variant) old.context plain sealed
   pub goes_on : code ≡ success → GoesOn old new encrypting_role
-  pub kept : code ≢ success → (new ≡ old) × (sealed ≡ plain)
+  pub kept : code ≢ success → (new ≡ old) × (sealed ≡ before)
 
--- The call decrypts the next bytes `sealed` of the ciphertext to `plain`, before the tag is known; or it changes nothing.
-pub record StateDecryptInPlaceUnverified (variant : Option Variant) (old new : State) (sealed plain : List ℕ) (code : ℤ) : Type 0 where
+-- The call decrypts the next bytes `sealed` to `plain`, over `before`, while the tag is not known; or it changes nothing.
+pub record StateDecryptUnverified (variant : Option Variant) (old new : State) (sealed before plain : List ℕ) (code : ℤ) : Type 0 where
   pub answered : code ≡ chunk_code variant old message_role decrypting_role (length sealed)
   pub taken : code ≡ success → HasTaken (the variant) old.context new.context plain
   pub written : code ≡ success → HasSealed (the variant) old.context plain sealed
   pub goes_on : code ≡ success → GoesOn old new decrypting_role
-  pub kept : code ≢ success → (new ≡ old) × (plain ≡ sealed)
+  pub kept : code ≢ success → (new ≡ old) × (plain ≡ before)
 
--- The call takes in the next bytes of the ciphertext, without writing the message; or it changes nothing. A message is
--- checked or decrypted, and not both.
+-- The call takes in the next bytes of the ciphertext without writing, or changes nothing. A message is checked or decrypted.
 pub record StateDecryptCheck (variant : Option Variant) (old new : State) (sealed : List ℕ) (code : ℤ) : Type 0 where
   pub answered : code ≡ chunk_code variant old message_role checking_role (length sealed)
   pub checked : code ≡ success → HasChecked (the variant) old.context new.context sealed
@@ -103,7 +103,7 @@ pub record StateEncryptFinal (variant : Option Variant) (old new : State) (tag t
 -- The call returns `success` exactly if the message is sealed to its ciphertext and this tag, unless a length or the state
 -- is wrong. If no message is, it erases every byte of `opened`, which has as many as the message, or none, as after a check.
 -- Both end the state; and if a length or the state is wrong, it changes nothing. It does not read `opened`: the message is
--- what the calls before have written (`StateDecryptInPlaceUnverified`).
+-- what the calls before have written (`StateDecryptUnverified`).
 pub record StateDecryptFinal (variant : Option Variant) (old new : State) (opened opened' tag : List ℕ) (code : ℤ) : Type 0 where
   pub answered : code ≢ number_of InvalidTag → code ≡ opened_code variant old (length opened) (length tag)
   pub lengths : code ≡ number_of InvalidTag → opened_code variant old (length opened) (length tag) ≡ success
@@ -172,8 +172,7 @@ pub record RecordBeginOpen (key prefix context : List ℕ) (old new : RecordStat
   pub begun : code ≡ success → Begun (progress_of new context) [] bytes
   pub state_kept : code ≢ success → new ≡ old
 
--- The call begins to open a stream at the record of this number, which so many bytes of messages come before; or it changes
--- nothing. Nothing is known of the records before it.
+-- The call begins to open a stream at this record, after so many bytes of messages, of which nothing is known; or changes nothing.
 pub record RecordBeginOpenAt (key prefix context : List ℕ) (number before : ℕ) (old new : RecordState) (code : ℤ) : Type 0 where
   pub answered : code ≡ context_code (length context)
       (if leb (start_at (next_position (state_at opening_mark number before key prefix))) max_aead_bytes then success else number_of MessageTooLong)

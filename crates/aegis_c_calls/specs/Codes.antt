@@ -5,7 +5,7 @@ use Rattle.aegis.specs.declared.record.position.RecordPosition.{RecordPosition}
 use Rattle.aegis.specs.declared.record.version.Version.TheVariants.{Second}
 use Rattle.aegis_c_calls.specs.declared.record.state.RecordState.{RecordState}
 use Rattle.aegis.specs.RecordStream.{length_at, limit, max_context_bytes, start_at, record_overhead}
-use Rattle.aegis_c_calls.specs.declared.refusal.Refusal.TheVariants.{InvalidTag, MessageTooLong, ContextTooLong, UnknownHeader, WrongRecordLength, WrongState, WrongNonceLength, WrongKeyLength, DataTooLong, WrongTagLength, WrongVariant, WrongPageSize, FileTooLong, WrongMessageLength, WrongJournal}
+use Rattle.aegis_c_calls.specs.declared.refusal.Refusal.TheVariants.{InvalidTag, MessageTooLong, ContextTooLong, UnknownHeader, WrongRecordLength, WrongState, WrongNonceLength, WrongKeyLength, DataTooLong, WrongTagLength, WrongVariant, WrongPageSize, FileTooLong, WrongMessageLength, WrongJournal, NoWrite}
 use Rattle.aegis_base.specs.Variant.{Aegis128L, Aegis128X2, Aegis128X4, Aegis256, Aegis256X2, Aegis256X4, Variant, key_length, long_tag_bytes, max_aead_bytes}
 use Rattle.aegis_engine.specs.Saved.{begun_mark}
 use Rattle.aegis_engine.specs.declared.saved.SavedContext.{SavedContext}
@@ -96,6 +96,7 @@ number_of WrongPageSize = neg_ℤ (pos 12)
 number_of FileTooLong = neg_ℤ (pos 13)
 number_of WrongMessageLength = neg_ℤ (pos 14)
 number_of WrongJournal = neg_ℤ (pos 15)
+number_of NoWrite = neg_ℤ (pos 22)
 
 -- for the length of a tag
 abbrev pub tag_code : ℕ → ℤ
@@ -153,8 +154,7 @@ chunk_code variant st begun role more = state_code variant st begun role (more_c
 unfoldable pub reading_role : State → ℕ
 reading_role st = if st.role == checking_role then checking_role else decrypting_role
 
--- for the number of bytes of the message that are given at its end: all or none, and none if it was checked; `rest` is the
--- code if they are allowed
+-- for the number of bytes of the message that are given at its end: all or none, and none if it was checked; or else `rest`
 unfoldable pub given_code : State → ℕ → ℤ → ℤ
 given_code st given rest =
     if given == 0
@@ -224,6 +224,11 @@ contents_code n = if leb n max_contents_bytes then success else number_of FileTo
 -- for the length of a page whose nonce has n bytes, and for its number: it has the nonce and a tag more than its contents
 abbrev pub place_code : (n bytes number : ℕ) → ℤ
 place_code n bytes number = size_code (bytes - (n + long_tag_bytes)) (contents_code (number * (bytes - (n + long_tag_bytes))))
+
+-- for a page size, and for the number of a page
+abbrev pub page_place_code : Option Variant → (page_bytes number : ℕ) → ℤ
+page_place_code (Some variant) page_bytes number = size_code page_bytes (contents_code (number * page_bytes))
+page_place_code None page_bytes number = number_of WrongVariant
 
 -- for the page size and the length of the contents in a header
 abbrev pub header_code : ℕ → ℕ → ℤ

@@ -3,9 +3,9 @@
 use Rattle.std.specs.Prelude.{ℕ, ℤ, ◌+◌, ◌-◌, leb, Option, Some, None, if◌then◌else◌, ◌≡◌, ◌≢◌, List, drop, length, replicate, take, ◌<◌, ◌≤◌, [], ◌∷◌, ◌++◌}
 use Rattle.aegis_base.specs.Variant.{Aegis128L, Variant, key_length, long_tag_bytes}
 use Rattle.aegis_base.specs.Message.{erased_byte}
-use Rattle.aegis_c_calls.specs.Codes.{ended_state, entry_code, header_code, header_seal_code, journal_code, keyed_code, number_of, page_open_code, page_seal_code, success, the}
-use Rattle.aegis_c_calls.specs.declared.refusal.Refusal.TheVariants.{InvalidTag, WrongJournal, WrongRecordLength}
-use Rattle.aegis_pages.specs.Layouts.{IsHeaderBlock, Layout, OpensAt, journal_beginning, plaintext_header_bytes, header_block_bytes}
+use Rattle.aegis_c_calls.specs.Codes.{ended_state, entry_code, header_code, header_seal_code, journal_code, keyed_code, number_of, page_open_code, page_seal_code, success, the, page_place_code}
+use Rattle.aegis_c_calls.specs.declared.refusal.Refusal.TheVariants.{InvalidTag, WrongJournal, NoWrite}
+use Rattle.aegis_pages.specs.Layouts.{IsHeaderBlock, Layout, OpensAt, journal_beginning, plaintext_header_bytes, header_block_bytes, page_place}
 use Rattle.aegis_pages.specs.declared.header.FileHeader.{FileHeader}
 use Rattle.aegis_storage.specs.Disk.{Writes, part_at}
 use Rattle.aegis_engine.specs.Saved.{IsSaved}
@@ -35,6 +35,12 @@ IsPageOf variant key id number page m = OpensAt (file_of variant key id (length 
 -- what a header names
 abbrev pub header_of : (page_bytes : ℕ) (id : List ℕ) (counter len : ℕ) → FileHeader
 header_of page_bytes id counter len = record { page_bytes = page_bytes; id = id; counter = counter; len = len }
+
+-- The call finds the position of a page in every file of this variant and page size; or it changes nothing.
+pub record PagePlace (variant : Option Variant) (page_bytes number place place' : ℕ) (code : ℤ) : Type 0 where
+  pub answered : code ≡ page_place_code variant page_bytes number
+  pub found : code ≡ success → (file : Layout) → file.variant ≡ the variant → file.page_bytes ≡ page_bytes → place' ≡ page_place file number
+  pub kept : code ≢ success → place' ≡ place
 
 -- The call seals the contents in `page` where they lie, and the page opens to them at its number; or it changes nothing.
 pub record PageSeal (variant : Option Variant) (key id nonce : List ℕ) (number : ℕ) (page page' : List ℕ) (code : ℤ) : Type 0 where
@@ -108,8 +114,7 @@ pub record JournalEntry (place : ℕ) (bytes : List ℕ) (old new : State) (head
   pub written : code ≡ success → head' ++ bytes ≡ entry (place, bytes)
   pub kept : code ≢ success → (new ≡ old) × (head' ≡ head)
 
--- The call overwrites `mac` with the MAC with which the journal ends, and ends the state; or it changes nothing. With the
--- MAC, what was written is then a journal of all the writes.
+-- The call writes the MAC that makes what was written a journal of all the writes, and ends the state; or it changes nothing.
 pub record JournalFinal (old new : State) (mac mac' : List ℕ) (code : ℤ) : Type 0 where
   pub answered : code ≡ journal_code old success
   pub whole : (key : List ℕ) (all : Writes) (before : List ℕ) → code ≡ success → IsJournaling key all [] old before → IsJournal key [] all (followed_by before mac')
@@ -164,7 +169,7 @@ pub record JournalCheck (variant : Option Variant) (key file journal : List ℕ)
 
 -- The call finds the first of the writes, if there is one: its place, and the length of its bytes.
 pub record JournalNext (writes : List ℕ) (place place' len len' : ℕ) (code : ℤ) : Type 0 where
-  pub answered : code ≢ number_of WrongRecordLength → code ≡ success
+  pub answered : code ≢ number_of NoWrite → code ≡ success
   pub found : code ≡ success → writes ≡ entry (place', part_at writes 16 len') ++ drop (16 + len') writes
   pub within : code ≡ success → place' + len' ≤ max_storage_bytes
   pub long : code ≡ success → 16 + len' ≤ length writes

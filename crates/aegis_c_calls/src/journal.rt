@@ -221,7 +221,7 @@ pub fn next(writes: &[u8], place: &mut u64, len: &mut usize) -> Result<(), Refus
     ensures { JournalNext writes.now place.old place.new len.old len.new (code_of result) }
 {
     let Some((found, bytes, _rest)) = first_write(writes) else {
-        return Err(Refusal::WrongRecordLength);
+        return Err(Refusal::NoWrite);
     };
     *place = found;
     *len = bytes.len();

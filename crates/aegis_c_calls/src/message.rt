@@ -1,8 +1,10 @@
 //! The calls on a whole message or input. `N` is the length of the variant's keys and nonces, in bytes.
 
-ghost use Rattle.std.specs.Prelude.{◌≡◌};
+ghost use Rattle.std.specs.Prelude.{◌≡◌, ◌≤◌, IfSome, List, false, length, replicate, true, ℕ};
+ghost use Rattle.aegis_base.specs.Message.{Opens, erased_byte, seal};
 ghost use Rattle.aegis_base.specs.Variant.{key_length};
-ghost use Rattle.aegis_c_calls.specs.Calls.{DecryptInPlace, EncryptInPlace, Mac, MacVerify, Stream, StreamXorInPlace};
+ghost use Rattle.aegis_engine.specs.Pass.{given};
+ghost use Rattle.aegis_c_calls.specs.Calls.{Decrypt, Encrypt, Mac, MacVerify, Stream, StreamXorInPlace};
 ghost use Rattle.aegis_c_calls.specs.Private.{code_of};
 ghost use Rattle.aegis_c_calls.specs.Codes.{lengths_code};
 
@@ -52,18 +54,73 @@ pub fn encrypt_in_place<S: LaneState, const N: usize>(
     mac: &mut [u8],
 ) -> Result<(), Refusal>
     requires { N ≡ key_length S.VARIANT.family }
-    ensures { EncryptInPlace (Some S.VARIANT) k.now npub.now ad.now mc.old mc.new mac.old mac.new
+    ensures { Encrypt (Some S.VARIANT) k.now npub.now ad.now mc.old mc.old mc.new mac.old mac.new
         (code_of result) }
 {
-    let (nonce, key) = message_keys::<N>(npub, k, mc.len(), ad.len())?;
+    encrypt_given::<S, N>(None, mc, ad, npub, k, mac)
+}
+
+/// Encrypts `m` into `c`, which must be as long, and writes the tag, of 16 or 32 bytes, to `mac`.
+#[inline(never)]
+pub fn encrypt<S: LaneState, const N: usize>(
+    m: &[u8],
+    c: &mut [u8],
+    ad: &[u8],
+    npub: &[u8],
+    k: &[u8],
+    mac: &mut [u8],
+) -> Result<(), Refusal>
+    requires family { N ≡ key_length S.VARIANT.family }
+    requires lengths { length m.now ≡ length c.old }
+    ensures { Encrypt (Some S.VARIANT) k.now npub.now ad.now m.now c.old c.new mac.old mac.new
+        (code_of result) }
+{
+    encrypt_given::<S, N>(Some(m), c, ad, npub, k, mac)
+}
+
+// Encrypts a message, which is `m`, or if it is `None`, `c`, into `c`.
+#[inline(always)]
+fn encrypt_given<S: LaneState, const N: usize>(
+    m: Option<&[u8]>,
+    c: &mut [u8],
+    ad: &[u8],
+    npub: &[u8],
+    k: &[u8],
+    mac: &mut [u8],
+) -> Result<(), Refusal>
+    requires family { N ≡ key_length S.VARIANT.family }
+    requires lengths { IfSome m (λ s. length s.now ≡ length c.old) }
+    ensures { Encrypt (Some S.VARIANT) k.now npub.now ad.now (given m.entry c.old) c.old c.new
+        mac.old mac.new (code_of result) }
+{
+    let (nonce, key) = message_keys::<N>(npub, k, c.len(), ad.len())?;
     if mac.len() == 16 {
-        mac.copy_from_slice(&OneMessage::<S, N, 16>::new(key, nonce).encrypt_in_place(mc, ad));
+        mac.copy_from_slice(&sealed(OneMessage::<S, N, 16>::new(key, nonce), m, c, ad));
     } else if mac.len() == 32 {
-        mac.copy_from_slice(&OneMessage::<S, N, 32>::new(key, nonce).encrypt_in_place(mc, ad));
+        mac.copy_from_slice(&sealed(OneMessage::<S, N, 32>::new(key, nonce), m, c, ad));
     } else {
         return Err(Refusal::WrongTagLength);
     }
     Ok(())
+}
+
+#[inline(always)]
+fn sealed<S: LaneState, const N: usize, const TAG_BYTES: usize>(
+    cipher: OneMessage<S, N, TAG_BYTES>,
+    m: Option<&[u8]>,
+    c: &mut [u8],
+    ad: &[u8],
+) -> [u8; TAG_BYTES]
+    requires lengths { IfSome m (λ s. length s.now ≡ length c.old) }
+    requires message_within { length c.old ≤ MAX_AEAD_BYTES }
+    requires associated_data_within { length ad.now ≤ MAX_AEAD_BYTES }
+    ensures { (c.new, result)
+        ≡ seal S.VARIANT TAG_BYTES cipher.key cipher.nonce ad.now (given m.entry c.old) }
+{
+    match m {
+        Some(m) => cipher.encrypt_into(m, c, ad),
+        None => cipher.encrypt_in_place(c, ad),
+    }
 }
 
 /// Decrypts `mc` in place. If `mac` is not its tag, each byte of `mc` is `ERASED`.
@@ -76,21 +133,82 @@ pub fn decrypt_in_place<S: LaneState, const N: usize>(
     mac: &[u8],
 ) -> Result<(), Refusal>
     requires { N ≡ key_length S.VARIANT.family }
-    ensures { DecryptInPlace (Some S.VARIANT) k.now npub.now ad.now mc.old mc.new mac.now
+    ensures { Decrypt (Some S.VARIANT) k.now npub.now ad.now mc.old mc.old mc.new mac.now
         (code_of result) }
 {
-    let (nonce, key) = message_keys::<N>(npub, k, mc.len(), ad.len())?;
-    let opened = if let Some(tag) = mac.as_array() {
-        OneMessage::<S, N, 16>::new(key, nonce).decrypt_in_place(mc, tag, ad)
+    decrypt_given::<S, N>(None, mc, ad, npub, k, mac)
+}
+
+/// Decrypts `c` into `m`, which must be as long. If `mac` is not its tag, each byte of `m` is `ERASED`.
+#[inline(never)]
+pub fn decrypt<S: LaneState, const N: usize>(
+    c: &[u8],
+    m: &mut [u8],
+    ad: &[u8],
+    npub: &[u8],
+    k: &[u8],
+    mac: &[u8],
+) -> Result<(), Refusal>
+    requires family { N ≡ key_length S.VARIANT.family }
+    requires lengths { length c.now ≡ length m.old }
+    ensures { Decrypt (Some S.VARIANT) k.now npub.now ad.now c.now m.old m.new mac.now
+        (code_of result) }
+{
+    decrypt_given::<S, N>(Some(c), m, ad, npub, k, mac)
+}
+
+// Decrypts a ciphertext, which is `c`, or if it is `None`, `m`, into `m`.
+#[inline(always)]
+fn decrypt_given<S: LaneState, const N: usize>(
+    c: Option<&[u8]>,
+    m: &mut [u8],
+    ad: &[u8],
+    npub: &[u8],
+    k: &[u8],
+    mac: &[u8],
+) -> Result<(), Refusal>
+    requires family { N ≡ key_length S.VARIANT.family }
+    requires lengths { IfSome c (λ s. length s.now ≡ length m.old) }
+    ensures { Decrypt (Some S.VARIANT) k.now npub.now ad.now (given c.entry m.old) m.old m.new
+        mac.now (code_of result) }
+{
+    let (nonce, key) = message_keys::<N>(npub, k, m.len(), ad.len())?;
+    let is_opened = if let Some(tag) = mac.as_array() {
+        opened(OneMessage::<S, N, 16>::new(key, nonce), c, m, tag, ad)
     } else if let Some(tag) = mac.as_array() {
-        OneMessage::<S, N, 32>::new(key, nonce).decrypt_in_place(mc, tag, ad)
+        opened(OneMessage::<S, N, 32>::new(key, nonce), c, m, tag, ad)
     } else {
         return Err(Refusal::WrongTagLength);
     };
-    if opened.is_ok() {
+    if is_opened {
         Ok(())
     } else {
         Err(Refusal::InvalidTag)
+    }
+}
+
+// Returns whether the tag is right.
+#[inline(always)]
+fn opened<S: LaneState, const N: usize, const TAG_BYTES: usize>(
+    cipher: OneMessage<S, N, TAG_BYTES>,
+    c: Option<&[u8]>,
+    m: &mut [u8],
+    tag: &[u8; TAG_BYTES],
+    ad: &[u8],
+) -> bool
+    requires lengths { IfSome c (λ s. length s.now ≡ length m.old) }
+    requires message_within { length m.old ≤ MAX_AEAD_BYTES }
+    requires associated_data_within { length ad.now ≤ MAX_AEAD_BYTES }
+    ensures opened { result ≡ true → Opens S.VARIANT TAG_BYTES cipher.key cipher.nonce ad.now
+        (given c.entry m.old) tag.now m.new }
+    ensures accepted { (p : List ℕ) → Opens S.VARIANT TAG_BYTES cipher.key cipher.nonce ad.now
+        (given c.entry m.old) tag.now p
+        → result ≡ true }
+    ensures erased { result ≡ false → m.new ≡ replicate (length m.old) erased_byte }
+{
+    match c {
+        Some(c) => cipher.decrypt_into(c, m, tag, ad).is_ok(),
+        None => cipher.decrypt_in_place(m, tag, ad).is_ok(),
     }
 }
 

@@ -4,7 +4,7 @@
 ghost use Rattle.std.specs.Prelude.{◌≡◌, Some};
 ghost use Rattle.aegis_base.specs.Variant.{key_length};
 ghost use Rattle.aegis_c_calls.specs.Private.{code_of};
-ghost use Rattle.aegis_c_calls.specs.PageCalls.{PageHeaderOpen, PageOpen, PageHeaderSeal, PageSeal, header_of};
+ghost use Rattle.aegis_c_calls.specs.PageCalls.{PageHeaderOpen, PageOpen, PageHeaderSeal, PagePlace, PageSeal, header_of};
 
 use crate::keys::{key_alone, nonce_and_key};
 use crate::refusal::Refusal;
@@ -13,9 +13,24 @@ use aegis_engine::ERASED;
 use aegis_pages::{
     FileLayout, HEADER_BLOCK_BYTES, open_header_block, open_page_at, seal_header, seal_page_at,
 };
-use check::{check_header, check_page};
+use check::{TAG_BYTES, check_header, check_page};
 
 pub mod check;
+
+/// Finds the position of a page in a file of this page size.
+#[inline(never)]
+pub fn page_place<S: LaneState, const N: usize>(
+    page_bytes: u32,
+    number: u64,
+    place: &mut u64,
+) -> Result<(), Refusal>
+    requires { N ≡ key_length S.VARIANT.family }
+    ensures { PagePlace (Some S.VARIANT) page_bytes number place.old place.new (code_of result) }
+{
+    let size = check_page::<N>(page_bytes as usize + (N + TAG_BYTES), number)?;
+    *place = FileLayout::<S, N>::new(&[0; N], size, &[0; 24]).page_place(number);
+    Ok(())
+}
 
 /// Seals a page where it lies: `page` has `N` bytes for the nonce, the contents, and 32 bytes for the tag.
 #[inline(never)]

@@ -38,6 +38,8 @@ pub enum Refusal {
     WrongMessageLength,
     /// A journal is that of another file, or of another state of this one.
     WrongJournal,
+    /// The bytes of a journal begin with no write.
+    NoWrite,
 }
 
 // Returns the code of a refusal.
@@ -60,6 +62,7 @@ fn number(refusal: Refusal) -> i32
         Refusal::FileTooLong => -13,
         Refusal::WrongMessageLength => -14,
         Refusal::WrongJournal => -15,
+        Refusal::NoWrite => -22,
     }
 }
 

@@ -1,9 +1,10 @@
 //! The calls on a state that C owns between them. C may pass a state that no call has begun, or one that it has
 //! changed. So the mark, the role and the two numbers of bytes are checked, and each body is safe for any other bytes.
 
-ghost use Rattle.std.specs.Prelude.{◌≡◌, ◌≢◌, ◌+◌, ◌≤◌, ℤ, IfErr, OnOk};
+ghost use Rattle.std.specs.Prelude.{◌≡◌, ◌≢◌, ◌+◌, ◌≤◌, ℤ, IfErr, IfSome, OnOk, length};
 ghost use Rattle.aegis_base.specs.Variant.{key_length};
-ghost use Rattle.aegis_c_calls.specs.Calls.{Begins, MacFinal, MacFinalVerify, MacUpdate, StateDecryptCheck, StateDecryptFinal, StateDecryptInPlaceUnverified, StateEncryptFinal, StateEncryptInPlace};
+ghost use Rattle.aegis_c_calls.specs.Calls.{Begins, MacFinal, MacFinalVerify, MacUpdate, StateDecryptCheck, StateDecryptFinal, StateDecryptUnverified, StateEncrypt, StateEncryptFinal};
+ghost use Rattle.aegis_engine.specs.Pass.{given};
 ghost use Rattle.aegis_c_calls.specs.Codes.{chunk_code, given_code, more_code, number_of, reading_role, role_code, success};
 ghost use Rattle.aegis_c_calls.specs.Private.{code_of};
 
@@ -116,7 +117,7 @@ fn check_given(st: &State, given: usize) -> Result<(), Refusal>
     Ok(())
 }
 
-/// Returns why [`encrypt_in_place`] of so many bytes would be refused, if it would be.
+/// Returns why [`encrypt`] of so many bytes would be refused, if it would be.
 pub fn may_encrypt<S: SavedLanes>(st: &State, more: usize) -> Result<(), Refusal>
     ensures { code_of result ≡ chunk_code (Some S.VARIANT) st.now MESSAGE ENCRYPTING more }
 {
@@ -124,7 +125,7 @@ pub fn may_encrypt<S: SavedLanes>(st: &State, more: usize) -> Result<(), Refusal
     Ok(())
 }
 
-/// Returns why [`decrypt_in_place_unverified`] of so many bytes would be refused, if it would be.
+/// Returns why [`decrypt_unverified`] of so many bytes would be refused, if it would be.
 pub fn may_decrypt<S: SavedLanes>(st: &State, more: usize) -> Result<(), Refusal>
     ensures { code_of result ≡ chunk_code (Some S.VARIANT) st.now MESSAGE DECRYPTING more }
 {
@@ -153,28 +154,32 @@ pub fn begin<S: SavedLanes, const N: usize>(
     Ok(())
 }
 
-/// Encrypts the next bytes of a message in place.
+/// Encrypts the next bytes of a message, which are `m`, or if it is `None`, `c`, into `c`.
 #[inline(always)]
-pub fn encrypt_in_place<S: SavedLanes>(st: &mut State, mc: &mut [u8]) -> Result<(), Refusal>
-    ensures { StateEncryptInPlace (Some S.VARIANT) st.old st.new mc.old mc.new (code_of result) }
+pub fn encrypt<S: SavedLanes>(st: &mut State, m: Option<&[u8]>, c: &mut [u8]) -> Result<(), Refusal>
+    requires { IfSome m (λ s. length s.now ≡ length c.old) }
+    ensures { StateEncrypt (Some S.VARIANT) st.old st.new (given m.entry c.old) c.old c.new
+        (code_of result) }
 {
-    check_chunk(st, MESSAGE, ENCRYPTING, mc.len())?;
-    st.context.encrypt_in_place::<S>(mc);
+    check_chunk(st, MESSAGE, ENCRYPTING, c.len())?;
+    st.context.encrypt::<S>(m, c);
     st.role = ENCRYPTING;
     Ok(())
 }
 
-/// Decrypts the next bytes of a ciphertext in place, before the tag is known.
+/// Decrypts the next bytes of a ciphertext, which are `c`, or if it is `None`, `m`, into `m`, before the tag is known.
 #[inline(always)]
-pub fn decrypt_in_place_unverified<S: SavedLanes>(
+pub fn decrypt_unverified<S: SavedLanes>(
     st: &mut State,
-    mc: &mut [u8],
+    c: Option<&[u8]>,
+    m: &mut [u8],
 ) -> Result<(), Refusal>
-    ensures { StateDecryptInPlaceUnverified (Some S.VARIANT) st.old st.new mc.old mc.new
-        (code_of result) }
+    requires { IfSome c (λ s. length s.now ≡ length m.old) }
+    ensures { StateDecryptUnverified (Some S.VARIANT) st.old st.new (given c.entry m.old)
+        m.old m.new (code_of result) }
 {
-    check_chunk(st, MESSAGE, DECRYPTING, mc.len())?;
-    st.context.decrypt_in_place_unverified::<S>(mc);
+    check_chunk(st, MESSAGE, DECRYPTING, m.len())?;
+    st.context.decrypt_unverified::<S>(c, m);
     st.role = DECRYPTING;
     Ok(())
 }

@@ -2,6 +2,7 @@
 //! that its exports have at the variants' numbers.
 
 pub mod journals;
+pub mod messages;
 pub mod pages;
 pub mod records;
 pub mod states;

@@ -1,6 +1,8 @@
 -- What a pass takes in, and its ciphertext, byte by byte and in pieces; and how a piece is cut into the part that fills
 -- the open block, whole rate blocks and a rest.
 use Rattle.std.proofs.Common.{◌≡◌, ◌∙◌, sym, ap, subst, refl, ℕ, zero, suc, ◌+◌, ◌-◌, ◌*◌, ◌/◌, ◌%◌, ◌<◌, ◌≤◌, List, ◌++◌, length, bit_xor, replicate, slice_index, arith}
+use Rattle.std.specs.Borrow.{Bor}
+use Rattle.std.specs.Prelude.{IfSome, None, Option, Some}
 use Rattle.std.proofs.Math.Nat.{div-mul-le_self, zero-div}
 use Rattle.std.proofs.lemmas.Bool.{cases_lt}
 use Rattle.std.proofs.lemmas.List.{length-append, length-replicate, replicate-append-replicate}
@@ -18,7 +20,7 @@ use Rattle.aegis_base.specs.Variant.{Variant, rate}
 use Rattle.aegis_base.proofs.Bijection.{bit_xor-twice}
 use Rattle.aegis_base.proofs.HeldFacts.{ciphertext-on, stands-block}
 use Rattle.aegis_base.proofs.LaneFacts.{xor-append}
-use Rattle.aegis_engine.specs.Pass.{IsPassed, absorbed, sealed}
+use Rattle.aegis_engine.specs.Pass.{IsPassed, absorbed, given, sealed}
 use Rattle.aegis_engine.specs.declared.pass.Pass.{Pass}
 use Rattle.aegis_engine.specs.declared.pass.Pass.TheVariants.{Seal, Open, Keystream}
 
@@ -27,6 +29,17 @@ pub zeros-read : (n i : ℕ) → slice_index (replicate n 0) i ≡ 0
 zeros-read zero i = refl
 zeros-read (suc n) zero = refl
 zeros-read (suc n) (suc i) = zeros-read n i
+
+-- a byte that a buffer kept is given as before, and a source is as long as the buffer
+pub given-same : (source : Option (Bor (List ℕ))) (now old : List ℕ) (i : ℕ) → slice_index now i ≡ slice_index old i
+    → slice_index (given source now) i ≡ slice_index (given source old) i
+given-same None now old i e = e
+given-same (Some s) now old i e = refl
+
+pub length-given : (source : Option (Bor (List ℕ))) (buffer : List ℕ) → IfSome source (λ s. length s.now ≡ length buffer)
+    → length (given source buffer) ≡ length buffer
+length-given None buffer e = refl
+length-given (Some s) buffer e = e
 
 -- what a pass takes in of n bytes from place a on
 pub absorbed-at : (pass : Pass) (old new : List ℕ) (a n k : ℕ) → k < n

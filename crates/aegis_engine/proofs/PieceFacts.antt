@@ -1,13 +1,13 @@
 -- A pass in pieces: one more piece, and all of them.
-use Rattle.std.proofs.Common.{◌≡◌, ◌∙◌, sym, ap, subst, ℕ, ◌+◌, ◌-◌, List, [], ◌++◌, drop, length, slice_range, take, append_assoc, arith}
-use Rattle.std.proofs.lemmas.List.{append-nil, drop-drop, length-append, take-append-drop}
+use Rattle.std.proofs.Common.{◌≡◌, ◌∙◌, sym, ap, subst, ℕ, ◌+◌, List, [], ◌++◌, length, append_assoc, arith}
+use Rattle.std.proofs.lemmas.List.{append-nil, length-append}
 use Rattle.aegis_aes.specs.Private.{IsSameBefore, IsSameFrom}
 use Rattle.aegis_aes.specs.Block.{bytes_at}
 use Rattle.aegis_aes.proofs.Places.{length-bytes_at}
 use Rattle.aegis_base.specs.Variant.{Variant}
 use Rattle.aegis_base.specs.Message.{ciphertext}
 use Rattle.aegis_base.specs.Context.{Held, Stands, Takes}
-use Rattle.aegis_base.proofs.LaneFacts.{bytes_at-all, bytes_at-append, bytes_at-same}
+use Rattle.aegis_base.proofs.LaneFacts.{bytes_at-all, bytes_at-append}
 use Rattle.aegis_engine.specs.Pass.{IsPassed}
 use Rattle.aegis_engine.specs.declared.pass.Pass.{Pass}
 use Rattle.aegis_engine.specs.declared.pass.Pass.TheVariants.{Seal, Open, Keystream}
@@ -26,12 +26,6 @@ pub passed-more : (variant : Variant) (old now new : Held) (pass : Pass) (a b c 
     → IsPassed variant old now pass a c → IsPassed variant now new pass b d → IsPassed variant old new pass (a ++ b) (c ++ d)
 passed-more variant old now new pass a b c d long first next =
     grind (arith, absorbed-append, append_assoc, sealed-append)
-
--- the rest of a list is its next n bytes and then the rest after them
-pub cut-at : (source : List ℕ) (at n : ℕ) → drop at source ≡ slice_range source at (at + n) ++ drop (at + n) source
-cut-at source at n =
-    let count : at + n - at ≡ n = omega arith in
-    rw count (sym (take-append-drop n (drop at source)) ∙ ap (λ (xs : List ℕ). take n (drop at source) ++ xs) (drop-drop n at source))
 
 -- all of `source` but `rest` is processed, and `out` is written so far
 pub record IsDone (variant : Variant) (old now : Held) (pass : Pass) (source rest out : List ℕ) : Type 0 where
@@ -66,25 +60,18 @@ takes-thrice variant h0 h1 h2 h3 xs a b c all first second third key nonce ad m 
     subst (Stands variant h3 key nonce ad) (append_assoc (m ++ x) y z ∙ append_assoc m x (y ++ z) ∙ ap (λ (l : List ℕ). m ++ l) (three-parts xs a b c all))
     (third key nonce ad ((m ++ x) ++ y) (second key nonce ad (m ++ x) (first key nonce ad m is)))
 
--- each leaves the others' bytes unchanged
-pub passed-thrice : (variant : Variant) (h0 h1 h2 h3 : Held) (pass : Pass) (b0 b1 b2 b3 : List ℕ) (a b c : ℕ) → a + (b + c) ≡ length b0 → length b3 ≡ length b0
-    → IsSameFrom a b0 b1 → IsSameBefore a b1 b2 → IsSameFrom (a + b) b1 b2 → IsSameBefore (a + b) b2 b3
-    → IsPassed variant h0 h1 pass (bytes_at b0 0 a) (bytes_at b1 0 a) → IsPassed variant h1 h2 pass (bytes_at b1 a b) (bytes_at b2 a b)
-    → IsPassed variant h2 h3 pass (bytes_at b2 (a + b) c) (bytes_at b3 (a + b) c) → IsPassed variant h0 h3 pass b0 b3
-passed-thrice variant h0 h1 h2 h3 pass b0 b1 b2 b3 a b c all long above before after below first second third =
-    let one : bytes_at b1 0 a ≡ bytes_at b3 0 a = bytes_at-same b1 b3 0 0 a (λ k low. sym (below (0 + k) (omega arith) ∙ before (0 + k) (omega arith))) in
-    let two : bytes_at b1 a b ≡ bytes_at b0 a b = bytes_at-same b1 b0 a a b (λ k low. above (a + k) (omega arith)) in
-    let two' : bytes_at b2 a b ≡ bytes_at b3 a b = bytes_at-same b2 b3 a a b (λ k low. sym (below (a + k) (omega arith))) in
-    let three : bytes_at b2 (a + b) c ≡ bytes_at b0 (a + b) c =
-    bytes_at-same b2 b0 (a + b) (a + b) c (λ k low. after (a + b + k) (omega arith) ∙ above (a + b + k) (omega arith)) in
-    let size : (i n : ℕ) → length (bytes_at b3 i n) ≡ length (bytes_at b0 i n) = λ i n. length-bytes_at b3 i n ∙ sym (length-bytes_at b0 i n) in
-    rw (← three-parts b0 a b c all, ← three-parts b3 a b c (all ∙ sym long))
-    (passed-more variant h0 h1 h3 pass (bytes_at b0 0 a) _ (bytes_at b3 0 a) _ (size 0 a) (rw one at first)
-    (passed-more variant h1 h2 h3 pass (bytes_at b0 a b) _ (bytes_at b3 a b) _ (size a b) (rw (two, two') at second) (rw three at third)))
+pub passed-thrice : (variant : Variant) (h0 h1 h2 h3 : Held) (pass : Pass) (source out : List ℕ) (a b c : ℕ) → a + (b + c) ≡ length source → length out ≡ length source
+    → IsPassed variant h0 h1 pass (bytes_at source 0 a) (bytes_at out 0 a) → IsPassed variant h1 h2 pass (bytes_at source a b) (bytes_at out a b)
+    → IsPassed variant h2 h3 pass (bytes_at source (a + b) c) (bytes_at out (a + b) c) → IsPassed variant h0 h3 pass source out
+passed-thrice variant h0 h1 h2 h3 pass source out a b c all long first second third =
+    let size : (i n : ℕ) → length (bytes_at out i n) ≡ length (bytes_at source i n) = λ i n. length-bytes_at out i n ∙ sym (length-bytes_at source i n) in
+    rw (← three-parts source a b c all, ← three-parts out a b c (all ∙ sym long))
+    (passed-more variant h0 h1 h3 pass (bytes_at source 0 a) _ (bytes_at out 0 a) _ (size 0 a) first
+    (passed-more variant h1 h2 h3 pass (bytes_at source a b) _ (bytes_at out a b) _ (size a b) second third))
 
 -- whole rate blocks alone
-pub passed-all : (variant : Variant) (h0 h1 : Held) (pass : Pass) (old new : List ℕ) → length new ≡ length old
-    → IsPassed variant h0 h1 pass (bytes_at old 0 (length old)) (bytes_at new 0 (length old)) → IsPassed variant h0 h1 pass old new
-passed-all variant h0 h1 pass old new long passed =
-    let whole : bytes_at new 0 (length old) ≡ new = rw (← long) (bytes_at-all new) in
-    rw (bytes_at-all old, whole) at passed
+pub passed-all : (variant : Variant) (h0 h1 : Held) (pass : Pass) (source out : List ℕ) (n : ℕ) → length source ≡ n → length out ≡ n
+    → IsPassed variant h0 h1 pass (bytes_at source 0 n) (bytes_at out 0 n) → IsPassed variant h0 h1 pass source out
+passed-all variant h0 h1 pass source out n all long passed =
+    let whole : (xs : List ℕ) → length xs ≡ n → bytes_at xs 0 n ≡ xs = λ xs is. rw is at (bytes_at-all xs) in
+    rw (whole source all, whole out long) at passed

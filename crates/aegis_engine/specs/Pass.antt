@@ -1,5 +1,6 @@
 -- The bytes that the lanes take in as a buffer is xored with the keystream, and their ciphertext.
-use Rattle.std.specs.Prelude.{ℕ, List, length, replicate}
+use Rattle.std.specs.Prelude.{ℕ, List, Option, None, Some, length, replicate}
+use Rattle.std.specs.Borrow.{Bor}
 use Rattle.aegis_aes.specs.Block.{xor}
 use Rattle.aegis_base.specs.Context.{Encrypts, Held, Takes}
 use Rattle.aegis_base.specs.Variant.{Variant}
@@ -17,6 +18,11 @@ abbrev pub sealed : Pass → List ℕ → List ℕ → List ℕ
 sealed Seal old new = new
 sealed Open old new = old
 sealed Keystream old new = xor old new
+
+-- the bytes that a pass processes: those of `source`, or if there is none, those of the buffer itself
+abbrev pub given : Option (Bor (List ℕ)) → List ℕ → List ℕ
+given None buffer = buffer
+given (Some source) buffer = source.now
 
 -- from `old` to `new`, a pass has processed `source`, which became `out`
 pub record IsPassed (variant : Variant) (old new : Held) (pass : Pass) (source out : List ℕ) : Type 0 where

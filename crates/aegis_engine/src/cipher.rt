@@ -3,7 +3,7 @@
 //! [`Cipher`] is generic in a state, and the six variants are aliases of it. Nothing here depends on a family or a
 //! number of lanes.
 
-ghost use Rattle.std.specs.Prelude.{◌≡◌, ⊤, ◌≤◌, ◌⊎◌, ◌++◌, IfErr, IfOk, IsOk, List, MatchResult, OnErr, OnOk, Some, codes, drop, false, length, replicate, take, true, ℕ, []};
+ghost use Rattle.std.specs.Prelude.{◌≡◌, ⊤, ◌≤◌, ◌⊎◌, ◌++◌, IfErr, IfOk, IfSome, IsOk, List, MatchResult, OnErr, OnOk, Some, codes, drop, false, length, replicate, take, true, ℕ, []};
 ghost use Rattle.aegis_base.specs.Lane.{IsTagLength};
 ghost use Rattle.std.specs.Borrow.{Array, LendsIfOk, sem, u8};
 ghost use Rattle.aegis_base.specs.Chunks.{OpensChunks, accepted, erased, joined};
@@ -11,6 +11,7 @@ ghost use Rattle.aegis_base.specs.Message.{Opens, ciphertext, seal, keystream, t
 ghost use Rattle.aegis_base.specs.Context.{Stands};
 ghost use Rattle.aegis_engine.specs.Beginning.{beginning, held, filled};
 ghost use Rattle.aegis_base.specs.Variant.{cipher_name, key_length};
+ghost use Rattle.aegis_engine.specs.Pass.{given};
 
 use crate::context::Context;
 use crate::decryptor::Decryptor;
@@ -153,7 +154,7 @@ impl<S: LaneState, U, const KEY_BYTES: usize, const TAG_BYTES: usize> Cipher<
     {
         let mut context = Context::<S>::begin_with(&self.key, &self.nonce, ad);
         let total = mc.len() as u64;
-        context.pass(Pass::Seal, mc, total);
+        context.pass(Pass::Seal, None, mc, total);
         context.tag()
     }
 
@@ -178,9 +179,81 @@ impl<S: LaneState, U, const KEY_BYTES: usize, const TAG_BYTES: usize> Cipher<
         ensures erased { OnErr result (mc.new ≡ replicate (length mc.old) erased_byte) }
         ensures error { IfErr result (λ e. e ≡ Error.InvalidTag) }
     {
+        self.open_given(None, mc, tag, ad)
+    }
+
+    /// Seals a message into another buffer, `c`, which must be as long. Returns the tag, which covers the associated
+    /// data `ad` too.
+    pub fn encrypt_into(self, m: &[u8], c: &mut [u8], ad: &[u8]) -> [u8; TAG_BYTES]
+        requires lengths { length m.now ≡ length c.old }
+        requires message_within { length m.now ≤ MAX_AEAD_BYTES }
+        requires associated_data_within { length ad.now ≤ MAX_AEAD_BYTES }
+        ensures { (c.new, result) ≡ seal S.VARIANT TAG_BYTES self.key self.nonce ad.now m.now }
+    {
+        let mut context = Context::<S>::begin(&self.key, &self.nonce, ad);
+        let total = m.len() as u64;
+        context.pass(Pass::Seal, Some(m), c, total);
+        context.tag()
+    }
+
+    /// Opens a ciphertext into another buffer, `m`, which must be as long.
+    ///
+    /// Returns `Ok` exactly if some message is sealed to this ciphertext and tag, and `m` is then that message.
+    /// Otherwise returns [`Error::InvalidTag`], and every byte of `m` is [`ERASED`]. All bytes of the tags are
+    /// compared, whether they are equal or not.
+    pub fn decrypt_into(
+        self,
+        c: &[u8],
+        m: &mut [u8],
+        tag: &[u8; TAG_BYTES],
+        ad: &[u8],
+    ) -> Result<(), Error>
+        requires lengths { length c.now ≡ length m.old }
+        requires message_within { length c.now ≤ MAX_AEAD_BYTES }
+        requires associated_data_within { length ad.now ≤ MAX_AEAD_BYTES }
+        ensures opened { OnOk result
+            (Opens S.VARIANT TAG_BYTES self.key self.nonce ad.now c.now tag.now m.new) }
+        ensures accepted { (p : List ℕ)
+            → Opens S.VARIANT TAG_BYTES self.key self.nonce ad.now c.now tag.now p
+            → IsOk result }
+        ensures only { (p : List ℕ)
+            → Opens S.VARIANT TAG_BYTES self.key self.nonce ad.now c.now tag.now p
+            → m.new ≡ p }
+        ensures erased { OnErr result (m.new ≡ replicate (length m.old) erased_byte) }
+        ensures error { IfErr result (λ e. e ≡ Error.InvalidTag) }
+    {
+        self.open_given(Some(c), m, tag, &[ad])
+    }
+
+    // Opens a ciphertext, which is `source`, or if there is none, `mc`, into `mc`. Inlined, each caller has a loop over
+    // rate blocks of its own.
+    #[inline(always)]
+    fn open_given(
+        self,
+        source: Option<&[u8]>,
+        mc: &mut [u8],
+        tag: &[u8; TAG_BYTES],
+        ad: &[&[u8]],
+    ) -> Result<(), Error>
+        requires lengths { IfSome source (λ s. length s.now ≡ length mc.old) }
+        requires message_within { length mc.old ≤ MAX_AEAD_BYTES }
+        requires associated_data_within { length (joined ad.now) ≤ MAX_AEAD_BYTES }
+        ensures opened { OnOk result (Opens S.VARIANT TAG_BYTES self.key self.nonce
+            (joined ad.now) (given source.entry mc.old) tag.now mc.new) }
+        ensures accepted { (m : List ℕ)
+            → Opens S.VARIANT TAG_BYTES self.key self.nonce (joined ad.now)
+            (given source.entry mc.old) tag.now m
+            → IsOk result }
+        ensures only { (m : List ℕ)
+            → Opens S.VARIANT TAG_BYTES self.key self.nonce (joined ad.now)
+            (given source.entry mc.old) tag.now m
+            → mc.new ≡ m }
+        ensures erased { OnErr result (mc.new ≡ replicate (length mc.old) erased_byte) }
+        ensures error { IfErr result (λ e. e ≡ Error.InvalidTag) }
+    {
         let mut context = Context::<S>::begin_with(&self.key, &self.nonce, ad);
         let total = mc.len() as u64;
-        context.pass(Pass::Open, mc, total);
+        context.pass(Pass::Open, source, mc, total);
         if context.has_tag(tag) {
             Ok(())
         } else {
@@ -303,7 +376,7 @@ impl<S: LaneState, U, const KEY_BYTES: usize, const TAG_BYTES: usize> Cipher<
     {
         out.fill(0);
         let total = out.len() as u64;
-        Context::<S>::begin(&self.key, &self.nonce, &[]).pass(Pass::Seal, out, total);
+        Context::<S>::begin(&self.key, &self.nonce, &[]).pass(Pass::Seal, None, out, total);
     }
 
     /// Xors a message in place with the keystream from its beginning. A second such call restores the message.
@@ -312,7 +385,7 @@ impl<S: LaneState, U, const KEY_BYTES: usize, const TAG_BYTES: usize> Cipher<
         ensures undone { xor_keystream S.VARIANT self.key self.nonce mc.new ≡ mc.old }
     {
         let total = mc.len() as u64;
-        Context::<S>::begin(&self.key, &self.nonce, &[]).pass(Pass::Keystream, mc, total);
+        Context::<S>::begin(&self.key, &self.nonce, &[]).pass(Pass::Keystream, None, mc, total);
     }
 
     /// Returns an encryptor, which seals a message in chunks, with the associated data `ad`.

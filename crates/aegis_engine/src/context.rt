@@ -4,17 +4,17 @@
 //! rest. A call that has its whole input at once is a context of one piece. In contracts a context is a `Held`, and
 //! clauses state the key, nonce, associated data and message so far that it stands for.
 
-ghost use Rattle.std.specs.Prelude.{◌≡◌, ℕ, ◌+◌, ◌-◌, ◌*◌, ◌%◌, ◌/◌, ◌^◌, ◌<◌, ◌≤◌, ◌⊎◌, ◌++◌, ◌↔◌, [], bit_xor, length, List, slice_index, true};
+ghost use Rattle.std.specs.Prelude.{◌≡◌, ℕ, ◌+◌, ◌-◌, ◌*◌, ◌%◌, ◌/◌, ◌^◌, ◌<◌, ◌≤◌, ◌⊎◌, ◌++◌, ◌↔◌, IfSome, [], bit_xor, length, List, slice_index, true};
 ghost use Rattle.aegis_base.specs.Chunks.{joined};
 ghost use Rattle.aegis_base.specs.Lane.{IsTagLength};
 ghost use Rattle.aegis_base.specs.Message.{Opens, after_all, block_count, ciphertext, keystream_byte_along, lane_before, lane_end, tag as tag_of};
 ghost use Rattle.aegis_base.specs.Context.{Encrypts, IsAccepted, IsAlong, IsTagged, Stands, Takes, held_by};
 ghost use Rattle.aegis_base.specs.Private.{HasFrom};
 ghost use Rattle.aegis_base.specs.Variant.{key_length};
-ghost use Rattle.aegis_engine.specs.Pass.{absorbed, sealed};
+ghost use Rattle.aegis_engine.specs.Pass.{absorbed, given, sealed};
 
 use crate::pass::{
-    Pass, RateBlock, ZEROS, absorb_part, absorb_whole, copy_part, pass_part, pass_whole,
+    Pass, RateBlock, ZEROS, absorb_part, absorb_whole, copy_part, fill_part, pass_part, pass_whole,
 };
 use crate::tag::{lanes_tag, same_bytes};
 use aegis_base::{LaneState, MAX_AEAD_BYTES};
@@ -99,26 +99,30 @@ pub fn absorb_bytes<S: LaneState>(state: S, block: &mut RateBlock, total: u64, b
     state
 }
 
-/// The lanes after the next bytes of a message, of which they have taken in `total`: each byte is xored with the
-/// keystream, and the lanes take in the bytes that `pass` selects. The open block is filled where it lies.
+/// The lanes after the next bytes of a message, of which they have taken in `total`: each byte is copied from `source`
+/// if there is one, and xored with the keystream, and the lanes take in the bytes that `pass` selects. The open block
+/// is filled where it lies.
 #[inline(always)]
 pub fn pass_bytes<S: LaneState>(
     state: S,
     block: &mut RateBlock,
     total: u64,
     pass: Pass,
+    source: Option<&[u8]>,
     mc: &mut [u8],
 ) -> S
     requires within { total + length mc.old < 2 ^ 64 }
+    requires lengths { IfSome source (λ s. length s.now ≡ length mc.old) }
     requires countable { S.updates state + length mc.old < 2 ^ 64 }
     ensures taken { (ad_bytes : ℕ) → Takes S.VARIANT
         (held_by S.VARIANT (S.lane state) (S.updates state) block.old ad_bytes total)
         (held_by S.VARIANT (S.lane result) (S.updates result) block.new ad_bytes
         (total + length mc.old))
-        (absorbed pass mc.old mc.new) }
+        (absorbed pass (given source.entry mc.old) mc.new) }
     ensures written { (ad_bytes : ℕ) → Encrypts S.VARIANT
         (held_by S.VARIANT (S.lane state) (S.updates state) block.old ad_bytes total)
-        (absorbed pass mc.old mc.new) (sealed pass mc.old mc.new) }
+        (absorbed pass (given source.entry mc.old) mc.new)
+        (sealed pass (given source.entry mc.old) mc.new) }
     ensures few { S.updates result ≤ S.updates state + length mc.old }
 {
     let first = filling::<S>(total, mc.len());
@@ -127,12 +131,14 @@ pub fn pass_bytes<S: LaneState>(
     let rest = mc.len() - last;
     // Most pieces are whole rate blocks alone. They need no call before or after the loop.
     if first + rest == 0 {
-        return pass_whole(state, pass, mc, 0, whole);
+        return pass_whole(state, pass, source, mc, 0, whole);
     }
     let mut state = state;
+    fill_part(mc, source, 0, first);
     pass_part(&mut state, &mut *block, total, pass, mc, 0, first);
-    let mut state = pass_whole(state, pass, mc, first, whole);
+    let mut state = pass_whole(state, pass, source, mc, first, whole);
     let end = total + last as u64;
+    fill_part(mc, source, last, rest);
     pass_part(&mut state, &mut *block, end, pass, mc, last, rest);
     state
 }
@@ -239,22 +245,25 @@ impl<S: LaneState> Context<S> {
         self.message_bytes = total;
     }
 
-    /// Processes the next bytes of a message in place: each byte is xored with the keystream, and the lanes take in the
-    /// bytes that `pass` selects. With them, the message has `total` bytes: the caller has counted them, since a
-    /// message has a limit, and a keystream has none.
+    /// Processes the next bytes of a message, which are those of `source`, or if there is none, those of `mc`: each
+    /// byte is xored with the keystream, and the lanes take in the bytes that `pass` selects. With them, the message
+    /// has `total` bytes: the caller has counted them, since a message has a limit, and a keystream has none.
     #[inline(always)]
-    pub fn pass(&mut self, pass: Pass, mc: &mut [u8], total: u64)
+    pub fn pass(&mut self, pass: Pass, source: Option<&[u8]>, mc: &mut [u8], total: u64)
         requires counted { total ≡ self.old.message_bytes + length mc.old }
         requires within { total < 2 ^ 63 }
-        ensures taken { Takes S.VARIANT self.old self.new (absorbed pass mc.old mc.new) }
-        ensures written { Encrypts S.VARIANT self.old (absorbed pass mc.old mc.new)
-            (sealed pass mc.old mc.new) }
+        requires lengths { IfSome source (λ s. length s.now ≡ length mc.old) }
+        ensures taken { Takes S.VARIANT self.old self.new
+            (absorbed pass (given source.entry mc.old) mc.new) }
+        ensures written { Encrypts S.VARIANT self.old
+            (absorbed pass (given source.entry mc.old) mc.new)
+            (sealed pass (given source.entry mc.old) mc.new) }
         ensures ad_bytes { self.new.ad_bytes ≡ self.old.ad_bytes }
         ensures length { self.new.message_bytes ≡ self.old.message_bytes + length mc.old }
     {
         // As in `absorb`.
         let mut block = self.block;
-        self.state = pass_bytes(self.state, &mut block, self.message_bytes, pass, mc);
+        self.state = pass_bytes(self.state, &mut block, self.message_bytes, pass, source, mc);
         self.block = block;
         self.message_bytes = total;
     }

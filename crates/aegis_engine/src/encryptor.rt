@@ -55,7 +55,7 @@ impl<S: LaneState, const TAG_BYTES: usize> Encryptor<S, TAG_BYTES> {
         ensures length { self.new.message_bytes ≡ self.old.message_bytes + length buffer.old }
     {
         let total = counted_within(self.context.message_bytes(), buffer.len());
-        self.context.pass(Pass::Seal, buffer, total);
+        self.context.pass(Pass::Seal, None, buffer, total);
     }
 
     /// Seals the next chunk into `out`, which must be as long as the chunk. The chunk must have at most `remaining`
@@ -68,7 +68,7 @@ impl<S: LaneState, const TAG_BYTES: usize> Encryptor<S, TAG_BYTES> {
         ensures length { self.new.message_bytes ≡ self.old.message_bytes + length plaintext.now }
     {
         let total = counted_within(self.context.message_bytes(), plaintext.len());
-        self.context.pass_from(Pass::Seal, plaintext, out, total);
+        self.context.pass(Pass::Seal, Some(plaintext), out, total);
     }
 
     /// Returns how many more bytes the message may have, of [`MAX_AEAD_BYTES`].

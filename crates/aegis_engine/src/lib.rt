@@ -1,7 +1,7 @@
 //! The engine of AEGIS: all calls of ciphers and MACs, generic in the family and the number of lanes.
 //!
 //! From the lowest module: `pass` processes rate blocks, `context` associated data and a message in pieces of any
-//! lengths, `pieces` bytes that are copied from another slice, and `opening` the chunks of a ciphertext. `cipher`,
+//! lengths, `pieces` several slices and bytes for a vector, and `opening` the chunks of a ciphertext. `cipher`,
 //! `encryptor`, `decryptor` and `mac` have the public calls, and `saved` the calls on a context that its caller keeps
 //! as bytes.
 #![tactic(auto)]

@@ -37,7 +37,7 @@ impl<S: LaneState> Context<S> {
         }
         let total = counted(self.message_bytes(), chunk.len() as u64)?;
         let part = &mut dst[so_far..so_far + chunk.len()];
-        self.pass_from(Pass::Open, chunk, part, total);
+        self.pass(Pass::Open, Some(chunk), part, total);
         Ok(())
     }
 

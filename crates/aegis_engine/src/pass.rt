@@ -5,14 +5,14 @@
 //! Associated data and the input of a MAC are taken in without a buffer. In contracts, the context has taken in `total`
 //! bytes before a call.
 
-ghost use Rattle.std.specs.Prelude.{◌≡◌, ℕ, ◌+◌, ◌*◌, ◌/◌, ◌%◌, ◌^◌, ◌<◌, ◌≤◌, bit_xor, length, List, slice_index, replicate};
+ghost use Rattle.std.specs.Prelude.{◌≡◌, ℕ, ◌+◌, ◌*◌, ◌/◌, ◌%◌, ◌^◌, ◌<◌, ◌≤◌, IfSome, bit_xor, length, List, slice_index, replicate};
 ghost use Rattle.aegis_aes.specs.Private.{IsSameBefore, IsSameFrom};
 ghost use Rattle.aegis_aes.specs.Block.{bytes_at};
 ghost use Rattle.aegis_base.specs.Lane.{update};
 ghost use Rattle.aegis_base.specs.Message.{keystream_byte, share_at};
 ghost use Rattle.aegis_base.specs.Private.{IsUnopened};
 ghost use Rattle.aegis_base.specs.Context.{Takes, held_by};
-ghost use Rattle.aegis_engine.specs.Pass.{IsPassed, absorbed};
+ghost use Rattle.aegis_engine.specs.Pass.{IsPassed, absorbed, given};
 
 use aegis_base::LaneState;
 
@@ -44,6 +44,22 @@ pub fn copy_part(target: &mut [u8], at: usize, source: &[u8], from: usize, count
     ensures above { IsSameFrom (at + count) target.old target.new }
 {
     target[at..at + count].copy_from_slice(&source[from..from + count]);
+}
+
+/// Copies `count` bytes, beginning at place `at`, from `source` to the same place of a buffer. If there is no source,
+/// the bytes are in the buffer already.
+#[inline(always)]
+pub fn fill_part(buffer: &mut [u8], source: Option<&[u8]>, at: usize, count: usize)
+    requires within { at + count ≤ length buffer.old }
+    requires lengths { IfSome source (λ s. length s.now ≡ length buffer.old) }
+    ensures written { (k : ℕ) → k < count
+        → slice_index buffer.new (at + k) ≡ slice_index (given source.entry buffer.old) (at + k) }
+    ensures below { IsSameBefore at buffer.old buffer.new }
+    ensures above { IsSameFrom (at + count) buffer.old buffer.new }
+{
+    if let Some(source) = source {
+        copy_part(buffer, at, source, at, count);
+    }
 }
 
 // A copy of the rate block of `bytes` that begins at place `at`.
@@ -234,23 +250,27 @@ pub fn absorb_whole<S: LaneState>(state: S, bytes: &[u8], at: usize, count: usiz
 }
 
 /// The lanes after `count` whole rate blocks of a buffer, beginning at place `at`, if no rate block is open: each is
-/// xored with the keystream, and the lanes take in the bytes that `pass` selects.
+/// copied from `source` if there is one, and xored with the keystream, and the lanes take in the bytes that `pass`
+/// selects. A block is copied right before its rounds, so that the next ones can be read from memory meanwhile.
 #[inline(always)]
 pub fn pass_whole<S: LaneState>(
     state: S,
     pass: Pass,
+    source: Option<&[u8]>,
     buffer: &mut [u8],
     at: usize,
     count: usize,
 ) -> S
     requires within { at + count * S.RATE ≤ length buffer.old }
+    requires lengths { IfSome source (λ s. length s.now ≡ length buffer.old) }
     requires countable { S.updates state + count < 2 ^ 64 }
     ensures passed { (block : List ℕ) (ad_bytes total : ℕ) → IsUnopened total count S.RATE
         → IsPassed S.VARIANT
         (held_by S.VARIANT (S.lane state) (S.updates state) block ad_bytes total)
         (held_by S.VARIANT (S.lane result) (S.updates result) block ad_bytes
         (total + count * S.RATE))
-        pass (bytes_at buffer.old at (count * S.RATE)) (bytes_at buffer.new at (count * S.RATE)) }
+        pass (bytes_at (given source.entry buffer.old) at (count * S.RATE))
+        (bytes_at buffer.new at (count * S.RATE)) }
     ensures below { IsSameBefore at buffer.old buffer.new }
     ensures above { IsSameFrom (at + count * S.RATE) buffer.old buffer.new }
     ensures updates { S.updates result ≡ S.updates state + count }
@@ -258,6 +278,7 @@ pub fn pass_whole<S: LaneState>(
     let rate = S::RATE;
     let mut state = state;
     for i in 0..count {
+        fill_part(buffer, source, at + i * rate, rate);
         if S::FIT_REGISTERS {
             let mut next = state;
             pass_block(state, &mut next, pass, buffer, at + i * rate);

@@ -1,8 +1,9 @@
-//! Bytes from another slice, in pieces: each piece is copied to its place, and processed there.
+//! Bytes from several slices, and bytes for a vector.
 //!
-//! A piece is short, so that the next one can be read from memory while the rounds of this one run.
+//! A vector grows in pieces: each piece is copied to its end, and processed there. A piece is short, so that the next
+//! one can be read from memory while the rounds of this one run.
 
-ghost use Rattle.std.specs.Prelude.{◌≡◌, ℕ, ◌+◌, ◌^◌, ◌<◌, ◌≤◌, OnOk, [], length};
+ghost use Rattle.std.specs.Prelude.{◌≡◌, ◌+◌, ◌^◌, ◌<◌, OnOk, [], length};
 ghost use Rattle.aegis_base.specs.Chunks.{joined};
 ghost use Rattle.aegis_base.specs.Context.{Encrypts, Takes};
 ghost use Rattle.aegis_engine.specs.Pass.{absorbed, sealed};
@@ -15,40 +16,7 @@ use std::alloc::{AllocError, Allocator};
 /// The length of a piece, in bytes: a multiple of every rate. Of the lengths from 256 to 4096, this one is the fastest.
 pub const COPY_BYTES: usize = 512;
 
-// The length of the next piece, after `total` bytes and with `left` bytes left. Each piece but the last ends at a
-// multiple of `COPY_BYTES`, so a rate block can be open only before the first one.
-#[inline(always)]
-fn piece_len(total: u64, left: usize) -> usize
-    ensures within { result ≤ left }
-    ensures some { 0 < left → 0 < result }
-{
-    let over = (total % COPY_BYTES as u64) as usize;
-    left.min(COPY_BYTES - over)
-}
-
 impl<S: LaneState> Context<S> {
-    /// Copies the next bytes of a message from `source` to `out`, which is as long, and processes them there as `pass`
-    /// does. With them, the message has `total` bytes.
-    #[inline(always)]
-    pub fn pass_from(&mut self, pass: Pass, source: &[u8], out: &mut [u8], total: u64)
-        requires counted { total ≡ self.old.message_bytes + length source.now }
-        requires within { total < 2 ^ 63 }
-        requires lengths { length source.now ≡ length out.old }
-        ensures taken { Takes S.VARIANT self.old self.new (absorbed pass source.now out.new) }
-        ensures written { Encrypts S.VARIANT self.old (absorbed pass source.now out.new)
-            (sealed pass source.now out.new) }
-        ensures length { self.new.message_bytes ≡ self.old.message_bytes + length source.now }
-    {
-        let mut at = 0;
-        while at < source.len() {
-            let end = at + piece_len(self.message_bytes, source.len() - at);
-            let part = &mut out[at..end];
-            part.copy_from_slice(&source[at..end]);
-            self.pass(pass, part, total - (source.len() - end) as u64);
-            at = end;
-        }
-    }
-
     /// Seals the next bytes of a message, which are chunks, into `out`. `out` is as long as all of them together.
     pub fn seal_chunks(&mut self, chunks: &[&[u8]], out: &mut [u8])
         requires within { self.old.message_bytes + length out.old < 2 ^ 63 }
@@ -62,7 +30,7 @@ impl<S: LaneState> Context<S> {
             let end = at + chunk.len();
             let part = &mut out[at..end];
             let total = self.message_bytes() + chunk.len() as u64;
-            self.pass_from(Pass::Seal, chunk, part, total);
+            self.pass(Pass::Seal, Some(*chunk), part, total);
             at = end;
         }
     }
@@ -90,7 +58,7 @@ impl<S: LaneState> Context<S> {
             let at = out.len();
             out.extend_from_slice(piece)?;
             let total = self.message_bytes + piece.len() as u64;
-            self.pass(pass, &mut out[at..], total);
+            self.pass(pass, None, &mut out[at..], total);
         }
         Ok(())
     }

@@ -5,13 +5,13 @@
 //! call. If its bytes stand for nothing, the calls are still safe, provided that its two numbers are within the limit.
 //! The mark distinguishes a context from bytes that were never begun or have ended.
 
-ghost use Rattle.std.specs.Prelude.{◌≡◌, ℕ, ◌+◌, ◌/◌, ◌%◌, ◌<◌, ◌≤◌, ◌↔◌, ◌++◌, List, [], length, slice_index, true};
+ghost use Rattle.std.specs.Prelude.{◌≡◌, IfSome, ℕ, ◌+◌, ◌/◌, ◌%◌, ◌<◌, ◌≤◌, ◌↔◌, ◌++◌, List, [], length, slice_index, true};
 ghost use Rattle.aegis_base.specs.Lane.{IsTagLength};
 ghost use Rattle.aegis_base.specs.Mac.{mac};
 ghost use Rattle.aegis_base.specs.Message.{Opens, block_count, ciphertext, tag as tag_of};
 ghost use Rattle.aegis_base.specs.Context.{Stands, held_by};
 ghost use Rattle.aegis_base.specs.Variant.{key_length};
-ghost use Rattle.aegis_engine.specs.Pass.{absorbed, sealed};
+ghost use Rattle.aegis_engine.specs.Pass.{absorbed, given, sealed};
 ghost use Rattle.aegis_engine.specs.Saved.{HasChecked, HasSealed, HasTaken, IsSaved};
 
 use crate::context::{Context, absorb_bytes, pass_bytes};
@@ -122,48 +122,55 @@ impl SavedContext {
         self.keep(context.state);
     }
 
-    // Processes the next bytes of a message in place, as `Context::pass` does.
+    // Processes the next bytes of a message, as `Context::pass` does.
     #[inline(always)]
-    fn pass<S: SavedLanes>(&mut self, pass: Pass, mc: &mut [u8])
+    fn pass<S: SavedLanes>(&mut self, pass: Pass, source: Option<&[u8]>, mc: &mut [u8])
+        requires lengths { IfSome source (λ s. length s.now ≡ length mc.old) }
         requires associated_data_within { self.old.ad_bytes ≤ MAX_AEAD_BYTES }
         requires message_within { self.old.message_bytes + length mc.old ≤ MAX_AEAD_BYTES }
-        ensures taken { HasTaken S.VARIANT self.old self.new (absorbed pass mc.old mc.new) }
-        ensures written { HasSealed S.VARIANT self.old (absorbed pass mc.old mc.new)
-            (sealed pass mc.old mc.new) }
+        ensures taken { HasTaken S.VARIANT self.old self.new
+            (absorbed pass (given source.entry mc.old) mc.new) }
+        ensures written { HasSealed S.VARIANT self.old
+            (absorbed pass (given source.entry mc.old) mc.new)
+            (sealed pass (given source.entry mc.old) mc.new) }
         ensures associated_data { self.new.ad_bytes ≡ self.old.ad_bytes }
         ensures counted { self.new.message_bytes ≡ self.old.message_bytes + length mc.old }
     {
         let state = self.lanes::<S>();
-        let state = pass_bytes(state, &mut self.block, self.message_bytes, pass, mc);
+        let state = pass_bytes(state, &mut self.block, self.message_bytes, pass, source, mc);
         self.message_bytes = counted_within(self.message_bytes, mc.len());
         self.keep(state);
     }
 
-    /// Encrypts the next bytes of the message in place. Together with those before, there must be at most
-    /// [`MAX_AEAD_BYTES`].
-    pub fn encrypt_in_place<S: SavedLanes>(&mut self, mc: &mut [u8])
+    /// Encrypts the next bytes of the message, which are those of `source`, or if there is none, those of `mc`.
+    /// Together with those before, there must be at most [`MAX_AEAD_BYTES`].
+    #[inline(always)]
+    pub fn encrypt<S: SavedLanes>(&mut self, source: Option<&[u8]>, mc: &mut [u8])
+        requires lengths { IfSome source (λ s. length s.now ≡ length mc.old) }
         requires associated_data_within { self.old.ad_bytes ≤ MAX_AEAD_BYTES }
         requires message_within { self.old.message_bytes + length mc.old ≤ MAX_AEAD_BYTES }
-        ensures taken { HasTaken S.VARIANT self.old self.new mc.old }
-        ensures written { HasSealed S.VARIANT self.old mc.old mc.new }
+        ensures taken { HasTaken S.VARIANT self.old self.new (given source.entry mc.old) }
+        ensures written { HasSealed S.VARIANT self.old (given source.entry mc.old) mc.new }
     {
-        self.pass::<S>(Pass::Seal, mc);
+        self.pass::<S>(Pass::Seal, source, mc);
     }
 
-    /// Decrypts the next bytes of the ciphertext in place, before the tag is known. The limit is that of
-    /// `encrypt_in_place`.
-    pub fn decrypt_in_place_unverified<S: SavedLanes>(&mut self, mc: &mut [u8])
+    /// Decrypts the next bytes of the ciphertext, which are those of `source`, or if there is none, those of `mc`,
+    /// before the tag is known. The limit is that of `encrypt`.
+    #[inline(always)]
+    pub fn decrypt_unverified<S: SavedLanes>(&mut self, source: Option<&[u8]>, mc: &mut [u8])
+        requires lengths { IfSome source (λ s. length s.now ≡ length mc.old) }
         requires associated_data_within { self.old.ad_bytes ≤ MAX_AEAD_BYTES }
         requires message_within { self.old.message_bytes + length mc.old ≤ MAX_AEAD_BYTES }
         ensures taken { HasTaken S.VARIANT self.old self.new mc.new }
-        ensures written { HasSealed S.VARIANT self.old mc.new mc.old }
+        ensures written { HasSealed S.VARIANT self.old mc.new (given source.entry mc.old) }
         ensures associated_data { self.new.ad_bytes ≡ self.old.ad_bytes }
         ensures counted { self.new.message_bytes ≡ self.old.message_bytes + length mc.old }
     {
-        self.pass::<S>(Pass::Open, mc);
+        self.pass::<S>(Pass::Open, source, mc);
     }
 
-    // Takes in a piece of the ciphertext, which is decrypted in a copy.
+    // Takes in a piece of the ciphertext, which is decrypted into a buffer of its own.
     fn check_piece<S: SavedLanes>(&mut self, piece: &[u8])
         requires short { length piece.now ≤ COPY_BYTES }
         requires associated_data_within { self.old.ad_bytes ≤ MAX_AEAD_BYTES }
@@ -173,13 +180,11 @@ impl SavedContext {
         ensures counted { self.new.message_bytes ≡ self.old.message_bytes + length piece.now }
     {
         let mut copy = [0; COPY_BYTES];
-        let part = &mut copy[..piece.len()];
-        part.copy_from_slice(piece);
-        self.decrypt_in_place_unverified::<S>(part);
+        self.decrypt_unverified::<S>(Some(piece), &mut copy[..piece.len()]);
     }
 
     /// Takes in the next bytes of the ciphertext, without writing the message. The limit is that of
-    /// `encrypt_in_place`.
+    /// `encrypt`.
     pub fn decrypt_check<S: SavedLanes>(&mut self, c: &[u8])
         requires associated_data_within { self.old.ad_bytes ≤ MAX_AEAD_BYTES }
         requires message_within { self.old.message_bytes + length c.now ≤ MAX_AEAD_BYTES }
@@ -190,7 +195,7 @@ impl SavedContext {
         }
     }
 
-    /// Takes in the next bytes of the input of a MAC. The limit is that of `encrypt_in_place`.
+    /// Takes in the next bytes of the input of a MAC. The limit is that of `encrypt`.
     pub fn absorb<S: SavedLanes>(&mut self, input: &[u8])
         requires associated_data_within { self.old.ad_bytes ≤ MAX_AEAD_BYTES }
         requires message_within { self.old.message_bytes + length input.now ≤ MAX_AEAD_BYTES }

@@ -18,8 +18,8 @@ use Rattle.aegis_files.specs.declared.error.FileError.{FileError}
 use Rattle.aegis_files.specs.declared.error.FileError.TheVariants.{Stream, TooLong}
 use Rattle.aegis_files.specs.declared.range.OpenedRange.{OpenedRange}
 use Rattle.aegis_files.specs.declared.range.ContentsRange.{ContentsRange}
-use Rattle.aegis_files.specs.Opening.{AreContentsFrom, AreFrom, FailsWith, IsReadError, IsSealedFile, IsWriteError, OpensRange, RefusesFile, RefusesFrom, StopsRange, part_of, part_of_contents}
-use Rattle.aegis_files.specs.Private.{HasNoHead, LeavesSome}
+use Rattle.aegis_files.specs.Opening.{AreContentsFrom, AreFrom, FailsWith, HasNoHead, IsReadError, IsSealedFile, IsWriteError, OpensRange, RefusesFile, RefusesFrom, StopsRange, part_of, part_of_contents}
+use Rattle.aegis_files.specs.Private.{LeavesSome}
 use Rattle.aegis_files.proofs.Pieces.{at_end, concat-short, read_some, some_with, two_prefixes}
 
 -- a stream's records follow its header

@@ -1,5 +1,5 @@
 -- Sealed files: a prefix, and then a record stream in version 2 whose messages, one after the other, are the contents.
-use Rattle.std.specs.Prelude.{◌≡◌, ℕ, ◌+◌, ◌-◌, ◌*◌, ◌/◌, ◌<◌, ◌≤◌, ◌⊎◌, List, [], ◌∷◌, ◌++◌, Option, length, ◌≢◌, drop, map, take, true, Some}
+use Rattle.std.specs.Prelude.{◌≡◌, ℕ, ◌+◌, ◌-◌, ◌*◌, ◌/◌, ◌<◌, ◌≤◌, ◌⊎◌, List, [], ◌∷◌, ◌++◌, Option, length, ◌≢◌, drop, map, take, true, Some, IfSome}
 use Rattle.std.specs.Io.KnownBytes.{Appends}
 use Rattle.std.specs.List.{concat, range_with_len}
 use Rattle.std.specs.declared.io.Error.{Error}
@@ -167,6 +167,10 @@ pub record StopsRange (key prefix context : List ℕ) (range : ContentsRange) (s
 
 -- ---- opening a file, and sealing it anew under another key
 
+-- a file of which this is known begins with no prefix and header
+abbrev pub HasNoHead : Option (List ℕ) → Type 0
+HasNoHead file = IfSome file (λ f. take 4 (drop prefix_bytes f) ≢ header Second)
+
 -- the fault of a file that is the file of no contents: it has no whole prefix and header, or the bytes after its prefix are no stream
 abbrev pub IsFileFault : List ℕ → List ℕ → List ℕ → RecordError → Type 0
 IsFileFault key context file e =
@@ -189,8 +193,7 @@ pub record RefusesFile (key context file : List ℕ) (e : FileError) : Type 0 wh
   pub accepted : (contents : List ℕ) → IsSealedFile key context contents file → (why : RecordError) → e ≡ Stream why → why ≡ errors.OutOfMemory
   pub too_long : e ≡ TooLong → prefix_bytes + max_aead_bytes < length file
 
--- Opening the file failed. Whatever the file is, what was written are the messages of records at its beginning, or a beginning of
--- them if a write failed, or nothing.
+-- Opening the file failed. What was written are messages of records at its beginning, a beginning of them, or nothing.
 pub record FailsWith (key context file : List ℕ) (old new : Option (List ℕ)) (e : FileError) : Type 0 where
   pub begun : List ℕ
   pub written : Appends old new begun

@@ -21,10 +21,6 @@ pub record ReadsPart (old new : List ℕ) (from to end : ℕ) (left left' : Opti
   pub read : (first : Option (List ℕ)) → Consumes first left (take from old) → Consumes first left' (take end new)
   pub ended : end < to → IsAtEnd left'
 
--- a file of which this is known begins with no prefix and header
-abbrev pub HasNoHead : Option (List ℕ) → Type 0
-HasNoHead file = IfSome file (λ f. take 4 (drop prefix_bytes f) ≢ header Second)
-
 -- The next record was read, and it is that of the message m.
 pub record ReadsNext (old new : Progress) (left left' : Option (List ℕ)) (is_last : Bool) (m : List ℕ) : Type 0 where
   pub read : Consumes left left' (record_of old (last_flag is_last) m)

@@ -16,8 +16,9 @@ mod seal;
 mod write;
 
 pub use error::FileError;
-pub use open::open_stream;
+pub use open::{BEGINNING_BYTES, FIRST, open_stream, read_prefix};
 pub use range::{ContentsRange, OpenedRange, open_range};
 pub use reading::fill;
 pub use rekey::rekey_stream;
 pub use seal::{PIECE_BYTES, seal_stream};
+pub use write::write_whole;

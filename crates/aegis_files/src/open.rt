@@ -5,8 +5,8 @@ ghost use Rattle.std.specs.Io.KnownBytes.{Appends, Consumes, IsAtEnd};
 ghost use Rattle.aegis_base.specs.declared.error.TheConstants.{MAX_AEAD_BYTES};
 ghost use Rattle.aegis.specs.RecordStream.{header};
 ghost use Rattle.aegis.specs.declared.record.version.Version.TheVariants.{Second};
-ghost use Rattle.aegis_files.specs.Opening.{FailsWith, IsReadError, IsSealedFile};
-ghost use Rattle.aegis_files.specs.Private.{HasNoHead, LeavesSome};
+ghost use Rattle.aegis_files.specs.Opening.{FailsWith, HasNoHead, IsReadError, IsSealedFile};
+ghost use Rattle.aegis_files.specs.Private.{LeavesSome};
 
 use crate::error::FileError;
 use crate::range::{ContentsRange, open_range};
@@ -17,26 +17,27 @@ use std::alloc::Allocator;
 use std::io::{Read, Write};
 
 /// The position of the first record of a file.
-pub(crate) const FIRST: RecordPosition = RecordPosition {
+pub const FIRST: RecordPosition = RecordPosition {
     version: Version::Second,
     number: 0,
     before: 0,
 };
 
-// How many bytes a file has before its first record: the prefix and the header.
-const HEAD_BYTES: usize = 24 + 4;
+/// The number of bytes in front of the first record of a file: the prefix and the header.
+pub const BEGINNING_BYTES: usize = 24 + 4;
 
-// Reads the prefix and the header of a file, and returns the prefix.
+/// Reads the prefix and the header of a file, and returns the prefix. Returns [`RecordError::Header`] if the file is
+/// shorter, or if the header is another one.
 #[tactic(auto, using(std::proofs::lemmas::Grind::common_steps, crate::proofs::Files::other_head, crate::proofs::Files::short_head))]
-pub(crate) fn read_prefix<R: Read>(input: &mut R) -> Result<[u8; 24], FileError>
+pub fn read_prefix<R: Read>(input: &mut R) -> Result<[u8; 24], FileError>
     ensures read { IfOk result (λ prefix. Consumes (R.remaining input.old)
         (R.remaining input.new) (prefix ++ header Second)) }
     ensures long { IfOk result (λ prefix. length prefix ≡ 24) }
     ensures refused { IfErr result (λ e. IsReadError e
         ⊎ ((e ≡ FileError.Stream RecordError.Header) × HasNoHead (R.remaining input.old))) }
 {
-    let mut head = [0; HEAD_BYTES];
-    if fill(input, &mut head)? < HEAD_BYTES {
+    let mut head = [0; BEGINNING_BYTES];
+    if fill(input, &mut head)? < BEGINNING_BYTES {
         return Err(FileError::Stream(RecordError::Header));
     }
     let (first, header) = head.split_at(24);

@@ -8,12 +8,10 @@ use crate::error::FileError;
 use std::io;
 use std::io::{ErrorKind, Write};
 
-/// Writes all bytes. An interrupted write is tried again. Returns [`FileError::Write`] if a write fails; a beginning of
-/// the bytes was written then.
+/// Writes all bytes. An interrupted write is tried again. After an error a beginning of the bytes was written.
 #[tactic(auto, using(std::proofs::lemmas::Grind::common_steps, crate::proofs::Pieces::write_laws))]
-pub fn write<W: Write>(output: &mut W, bytes: &[u8]) -> Result<(), FileError>
+pub fn write_whole<W: Write>(output: &mut W, bytes: &[u8]) -> io::Result<()>
     ensures ok { OnOk result (Appends (W.contents output.old) (W.contents output.new) bytes.now) }
-    ensures err { IfErr result IsWriteError }
     ensures beginning { OnErr result ((n : ℕ)
         × Appends (W.contents output.old) (W.contents output.new) (take n bytes.now)) }
 {
@@ -23,16 +21,29 @@ pub fn write<W: Write>(output: &mut W, bytes: &[u8]) -> Result<(), FileError>
             return Ok(());
         }
         match output.write(&bytes[sent..]) {
-            Ok(0) => return Err(FileError::Write(io::Error::from(ErrorKind::WriteZero))),
+            Ok(0) => return Err(io::Error::from(ErrorKind::WriteZero)),
             Ok(count) => sent += count,
             Err(error) => {
                 if error.kind() != ErrorKind::Interrupted {
-                    return Err(FileError::Write(error));
+                    return Err(error);
                 }
             }
         }
     }
-    Err(FileError::Write(io::Error::from(ErrorKind::TimedOut)))
+    Err(io::Error::from(ErrorKind::TimedOut))
+}
+
+/// Writes all bytes. Returns [`FileError::Write`] if a write fails; a beginning of the bytes was written then.
+pub fn write<W: Write>(output: &mut W, bytes: &[u8]) -> Result<(), FileError>
+    ensures ok { OnOk result (Appends (W.contents output.old) (W.contents output.new) bytes.now) }
+    ensures err { IfErr result IsWriteError }
+    ensures beginning { OnErr result ((n : ℕ)
+        × Appends (W.contents output.old) (W.contents output.new) (take n bytes.now)) }
+{
+    match write_whole(output, bytes) {
+        Ok(()) => Ok(()),
+        Err(error) => Err(FileError::Write(error)),
+    }
 }
 
 /// Writes the last bytes, and flushes the writer.

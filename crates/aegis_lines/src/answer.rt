@@ -20,7 +20,7 @@ use crate::table::{Command, fault_in};
 use aegis::aes::AesBlock;
 use aegis::{Error, chunks_len};
 use aegis_base::slices;
-use aegis_variants::AnyCipher;
+use aegis_variants::{AnyCipher, AnyVariant, Keys};
 use std::alloc::{AllocError, Allocator};
 
 /// Returns the answer to a line, without a line end. The line may have any bytes, and a line end in it is a byte like
@@ -120,6 +120,24 @@ fn shown_message<A: Allocator + Copy>(alloc: A, message: &[u8]) -> Result<Vec<u8
     Ok(text)
 }
 
+// The key of this field and the nonce of the next, which have `N` bytes.
+fn keys<A: Allocator + Copy, const N: usize>(
+    alloc: A,
+    fields: &[&[u8]],
+    key: usize,
+) -> Result<Keys<N>, AllocError>
+    requires in_line { key + 1 < length fields.now }
+    requires key { fault_of N 0 kinds.Key (field_of (texts fields.now) key) ≡ None }
+    requires nonce { fault_of N 0 kinds.Key (field_of (texts fields.now) (key + 1)) ≡ None }
+    ensures key { IfOk result (λ keys. keys.key ≡ bytes_at (texts fields.now) key) }
+    ensures nonce { IfOk result (λ keys. keys.nonce ≡ bytes_at (texts fields.now) (key + 1)) }
+{
+    Ok(Keys {
+        key: array(alloc, field(fields, key))?,
+        nonce: array(alloc, field(fields, key + 1))?,
+    })
+}
+
 // The cipher of a line's variant, with the key of this field and the nonce of the next.
 fn cipher<A: Allocator + Copy>(
     alloc: A,
@@ -137,13 +155,14 @@ fn cipher<A: Allocator + Copy>(
     ensures nonce { IfOk result
         (λ cipher. nonce_of cipher ≡ bytes_at (texts fields.now) (key + 1)) }
 {
-    let variant = variant_in(fields);
-    let nonce = bytes(alloc, field(fields, key + 1))?;
-    let key = bytes(alloc, field(fields, key))?;
-    match AnyCipher::from_slices(variant, &key, &nonce) {
-        Some(cipher) => Ok(cipher),
-        None => unreachable!(),
-    }
+    Ok(match variant_in(fields) {
+        AnyVariant::Aegis128L => AnyCipher::Aegis128L(keys(alloc, fields, key)?),
+        AnyVariant::Aegis128X2 => AnyCipher::Aegis128X2(keys(alloc, fields, key)?),
+        AnyVariant::Aegis128X4 => AnyCipher::Aegis128X4(keys(alloc, fields, key)?),
+        AnyVariant::Aegis256 => AnyCipher::Aegis256(keys(alloc, fields, key)?),
+        AnyVariant::Aegis256X2 => AnyCipher::Aegis256X2(keys(alloc, fields, key)?),
+        AnyVariant::Aegis256X4 => AnyCipher::Aegis256X4(keys(alloc, fields, key)?),
+    })
 }
 
 // The answer to `round B K`.
@@ -185,7 +204,7 @@ fn seal_chunks<A: Allocator + Copy, const TAG_BYTES: usize>(
     ensures { IfOk result (λ text. text.items
         ≡ shown_pair (sealed_by cipher.now TAG_BYTES associated_data.now (joined chunks.now))) }
 {
-    let mut ciphertext = vec![in alloc; 0u8; len_of(chunks)]?;
+    let mut ciphertext = vec![in alloc; 0u8; len_of(chunks)?]?;
     let tag = cipher.seal_chunks::<TAG_BYTES>(associated_data, chunks, &mut ciphertext);
     shown_pair(alloc, &ciphertext, &tag)
 }
@@ -227,21 +246,20 @@ fn open_chunks<A: Allocator + Copy, const TAG_BYTES: usize>(
         (λ m. sealed_by cipher.now TAG_BYTES associated_data.now m ≡ (joined chunks.now, tag.now))
         text.items) }
 {
-    let mut message = vec![in alloc; 0u8; len_of(chunks)]?;
+    let mut message = vec![in alloc; 0u8; len_of(chunks)?]?;
     let Ok(()) = cipher.open_chunks(associated_data, chunks, tag, &mut message) else {
         return Vec::from_slice(alloc, b"invalid tag");
     };
     shown_message(alloc, &message)
 }
 
-// How many bytes chunks have together.
-fn len_of(chunks: &[&[u8]]) -> usize
-    requires { length (joined chunks.now) ≤ MAX_AEAD_BYTES }
-    ensures { result ≡ length (joined chunks.now) }
+// How many bytes chunks have together. No memory has more than a message may have.
+fn len_of(chunks: &[&[u8]]) -> Result<usize, AllocError>
+    ensures { IfOk result (λ len. len ≡ length (joined chunks.now)) }
 {
     match chunks_len(chunks) {
-        Some(len) => len as usize,
-        None => unreachable!(),
+        Some(len) => Ok(len as usize),
+        None => Err(AllocError),
     }
 }
 

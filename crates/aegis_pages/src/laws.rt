@@ -2,11 +2,16 @@
 
 ghost use Rattle.std.specs.Prelude.{◌≡◌, ◌+◌, ◌≤◌, IfSome, List, Option, Some, length, ℕ};
 ghost use Rattle.aegis_aes.specs.Lanes.{IsLaneCount};
-ghost use Rattle.aegis_base.specs.Variant.{Variant};
+ghost use Rattle.aegis_base.specs.Variant.{Variant, long_tag_bytes};
 ghost use Rattle.aegis_storage.specs.Disk.{Crashed, Disk, certain, overwritten, part_at};
 ghost use Rattle.aegis_pages.specs.Commits.{HasHonestHeader, HasOneCommitment, IsHonest, IsLeftByCommit, RecoversContentsUnlessOtherJournal, RecoversOneUnlessOtherJournal, commitment};
-ghost use Rattle.aegis_pages.specs.Layouts.{IsHeader};
+ghost use Rattle.aegis_pages.specs.Layouts.{IsHeader, header_block_bytes, max_contents_bytes, max_page_bytes, min_page_bytes, plaintext_header_bytes};
 ghost use Rattle.aegis_pages.specs.OpenFile.{AreCommitted, HasCommitted, HasContents, IsStoredAs, IsUnchanged, OpenFile};
+
+use crate::layout::{
+    HEADER_BLOCK_BYTES, MAX_CONTENTS_BYTES, MAX_PAGE_BYTES, MIN_PAGE_BYTES, PLAINTEXT_HEADER_BYTES,
+    TAG_BYTES,
+};
 
 /// A part that was written is what is read at its place.
 #[tactic(auto, using(aegis_storage::proofs::Overwriting::put_part))]
@@ -101,7 +106,25 @@ pub fn committed_recovers()
 /// What a crash may leave, by its parts, as `open` takes it.
 #[tactic(auto, unfolding(crate::specs::Commits::RecoversUnder))]
 pub fn recovers_contents()
-    ensures { (file : OpenFile) (before now : List ℕ) → RecoversOneUnlessOtherJournal file before now
+    ensures { (file : OpenFile) (before now : List ℕ)
+        → RecoversOneUnlessOtherJournal file before now
         → RecoversContentsUnlessOtherJournal file.layout.variant file.layout.key before now
         file.disk file.journal }
 {}
+
+/// The limits, and the lengths of a header's parts, are those of the definitions.
+pub fn page_limits()
+    ensures least { MIN_PAGE_BYTES ≡ min_page_bytes }
+    ensures most { MAX_PAGE_BYTES ≡ max_page_bytes }
+    ensures contents { MAX_CONTENTS_BYTES ≡ max_contents_bytes }
+    ensures header_block { HEADER_BLOCK_BYTES ≡ header_block_bytes }
+    ensures plaintext_header { PLAINTEXT_HEADER_BYTES ≡ plaintext_header_bytes }
+    ensures tag { TAG_BYTES ≡ long_tag_bytes }
+{
+    let (_least, _most, _contents) = (MIN_PAGE_BYTES, MAX_PAGE_BYTES, MAX_CONTENTS_BYTES);
+    let (_header_block, _plaintext_header, _tag) = (
+        HEADER_BLOCK_BYTES,
+        PLAINTEXT_HEADER_BYTES,
+        TAG_BYTES,
+    );
+}

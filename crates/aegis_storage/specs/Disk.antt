@@ -143,8 +143,7 @@ Adds old new more = IfKnown (λ disk now. IsWithin now (after disk more)) old ne
 abbrev pub Spoils : Option Disk → Option Disk → List Change → Type 0
 Spoils old new more = IfKnown (λ disk now. IsWithin now (spoilt (after disk more))) old new
 
--- After a sync with `Ok` the bytes are certain to which the disk settles. If it settles to none, what was pending may be
--- lost: that is less than Linux promises.
+-- After a sync with `Ok` the bytes are certain to which the disk settles. If there are none, what was pending may be lost.
 pub record MakesSynced (old new : Disk) : Type 0 where
   pub certainly : (bytes : List ℕ) → SettlesTo old bytes → new ≡ certain bytes
   pub otherwise : IsWithin new (spoilt old)

@@ -83,8 +83,7 @@ LeavesNoMore now disk = (bytes : List ℕ) → Crashed now bytes → Crashed dis
 abbrev pub StaysCertain : (old new : Disk) → Type 0
 StaysCertain old new = (bytes : List ℕ) → IsWithin old (certain bytes) → IsWithin new (certain bytes)
 
--- The call has not begun, is under way, or has failed. A crash may leave any part of its change, and a sync that fails
--- may lose what was pending.
+-- The call has not begun, is under way, or has failed: any part of its change may be left, and what was pending be lost.
 abbrev pub Leaves : Effect → (old new : Held) → Type 0
 Leaves Nothing old new = new ≡ old
 Leaves (Changes change) old new = LeavesNoMore new.disk (after old.disk (change ∷ []))

@@ -26,10 +26,10 @@ use std::io::ErrorKind;
 /// [`MAX_CONTEXT_BYTES`]. The beginning is what the journal begins with. Whatever a crash leaves, a journal with more
 /// than [`BEGINNING_BYTES`] begins with it.
 ///
-/// After an error, call `recover` before anything else. The error is that of a call, or `AlreadyExists` if the journal
-/// is not empty, or `InvalidInput` if the journal would have more than [`crate::MAX_JOURNAL_BYTES`], both of which change
-/// nothing, or `OutOfMemory`. Memory is taken for the journal, and for a copy while it grows. Whatever the result is, the
-/// storage and the journal are as they were, or as the steps leave them up to one of them.
+/// After an error, call `recover` before anything else. The error is that of a call, or `OutOfMemory`; or, and then
+/// nothing has changed, `AlreadyExists` if the journal is not empty, or `InvalidInput` if it would have more than
+/// [`crate::MAX_JOURNAL_BYTES`]. Memory is taken for the journal, and for a copy while it grows. With any result
+/// the storage and the journal are as they were, or as the steps leave them up to one of them.
 #[tactic(auto, using(crate::proofs::Journals::empty_beginning, crate::proofs::Journals::at_rest_recovers))]
 pub fn commit<S: Storage, J: Storage, A: Allocator + Copy>(
     alloc: A,

@@ -1,10 +1,13 @@
 //! Laws of storages that crash: functions that do nothing, and whose contracts are facts about the definitions that the
 //! other contracts cite.
 
-ghost use Rattle.std.specs.Prelude.{◌≡◌, [], List, Option, Some, length, take, ℕ};
+ghost use Rattle.std.specs.Prelude.{◌≡◌, ◌+◌, [], List, Option, Some, length, take, ℕ};
 ghost use Rattle.aegis_storage.specs.Disk.{AreParts, Change, Crashed, Disk, Writes, applied, certain, changes, after_writes};
-ghost use Rattle.aegis_storage.specs.Journal.{IsAtRest, IsJournal, KeepsBeginning, RecoversUnlessOtherJournal, RestsAtEither};
+ghost use Rattle.aegis_storage.specs.Journal.{IsAtRest, IsJournal, KeepsBeginning, RecoversUnlessOtherJournal, RestsAtEither, journal_beginning_bytes, journal_start_bytes, max_journal_bytes, max_storage_bytes};
 ghost use Rattle.aegis_storage.specs.Steps.{Held, Recoverable, StopsAt, Taken, commit_steps, held, journal_effect, recovery_steps, storage_effect};
+
+use crate::journal::{BEGINNING_BYTES, MAX_JOURNAL_BYTES, NONCE_BYTES};
+use crate::store::MAX_STORAGE_BYTES;
 
 /// After any parts of writes, in any order, all of the writes give what they give without these.
 #[tactic(auto, using(crate::proofs::Disks::written_again))]
@@ -24,7 +27,8 @@ pub fn certain_bytes()
 #[tactic(auto, using(crate::proofs::Journals::at_rest_recovers))]
 pub fn recovers_at_rest()
     ensures { (key context xs : List ℕ) (writes : Writes) (storage journal : Option Disk)
-        → IsAtRest storage journal xs → RecoversUnlessOtherJournal key context xs writes storage journal }
+        → IsAtRest storage journal xs
+        → RecoversUnlessOtherJournal key context xs writes storage journal }
 {}
 
 /// What keeps its beginning before a crash does so after it.
@@ -90,3 +94,14 @@ pub fn recovery_ends_at_rest()
         → Taken (journal_effect j.bytes) (recovery_steps (length found)) j j'
         → RestsAtEither (Some s'.disk) (Some j'.disk) xs writes }
 {}
+
+/// The limits, and the lengths of what a journal begins with, are those of the definitions.
+pub fn storage_limits()
+    ensures storage { MAX_STORAGE_BYTES ≡ max_storage_bytes }
+    ensures journal { MAX_JOURNAL_BYTES ≡ max_journal_bytes }
+    ensures beginning { BEGINNING_BYTES ≡ journal_beginning_bytes }
+    ensures start { BEGINNING_BYTES + NONCE_BYTES ≡ journal_start_bytes }
+{
+    let (_storage, _journal) = (MAX_STORAGE_BYTES, MAX_JOURNAL_BYTES);
+    let (_beginning, _nonce) = (BEGINNING_BYTES, NONCE_BYTES);
+}

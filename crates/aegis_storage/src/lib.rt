@@ -5,8 +5,8 @@
 //! authenticated with a MAC of [`aegis::aegis128l`], and not encrypted.
 //!
 //! What a crash may leave is a definition, `Crashed` of `specs/Disk.antt`: the synced bytes, any bytes at the places
-//! that were written since, and one of the sizes. The promise is `RecoversUnlessOtherJournal` of `specs/Journal.antt`. Its
-//! premise is that the crash leaves no other whole journal, neither a forgery nor an older one (`IsNoOtherJournal`).
+//! that were written since, and one of the sizes. The promise is `RecoversUnlessOtherJournal` of `specs/Journal.antt`.
+//! Its premise is that the crash leaves no other whole journal: no forgery, and no older one (`IsNoOtherJournal`).
 //!
 //! ```
 //! let mut writes = Vec::new(alloc);

@@ -26,7 +26,7 @@ pub const MAX_STORAGE_BYTES: u64 = 9_223_372_036_854_775_807;
 /// changes since. A crash is an event of this model: a vector is certain of its items in the model, as a disk that
 /// writes at once would be, and is still lost when its process ends. For files `disk` is `None`.
 ///
-/// Its ghost member `errors` has the errors that its calls may return, but for `UnexpectedEof` of `read_at`, whose cause
+/// Its ghost member `errors` has the errors that its calls may return, except `UnexpectedEof` of `read_at`, whose cause
 /// is known. For a vector that is `OutOfMemory`; for a file they are any.
 pub trait Storage {
     // All the bytes, where they are known.

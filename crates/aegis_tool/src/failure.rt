@@ -1,10 +1,9 @@
 //! The errors of commands, and the exit statuses.
 
 use crate::command::Place;
-use crate::range::{BEGINNING_BYTES, FIRST};
 use crate::shown::{Lost, Name, Verified};
 use aegis::record::{RECORD_BYTES, RecordError, RecordPosition};
-use aegis_files::FileError;
+use aegis_files::{BEGINNING_BYTES, FIRST, FileError};
 use std::alloc::AllocError;
 use std::io;
 use thiserror::Error;
@@ -40,7 +39,7 @@ pub enum Failure<'a> {
     Input(Name<'a>, io::Error),
     #[error("{0} is a socket of messages, which may lose a part of one: read from a pipe or a file")]
     Messages(Name<'a>),
-    #[error("{0} is a folder: to seal it, run tar -c FOLDER | hunkravy seal -k KEY - OUT")]
+    #[error("{0} is a folder: give a file, or seal a folder with tar -c FOLDER | hunkravy seal -k KEY - OUT")]
     Folder(Name<'a>),
     #[error("{0} cannot be written: {1}")]
     Output(Name<'a>, io::Error),
@@ -62,8 +61,8 @@ pub enum Failure<'a> {
     NoNameHere(Name<'a>),
     #[error("{0} is a folder or a block device: give a file")]
     NoOutput(Name<'a>),
-    #[error("{0} became a device or a pipe during the run: give another OUT")]
-    Appeared(Name<'a>),
+    #[error("{0} appeared or was exchanged during the run: give another OUT")]
+    Exchanged(Name<'a>),
     #[error("{0} is also the input: input and output must be different files")]
     SameFile(Name<'a>),
     #[error("{0} is a pipe that only this run reads, so what is written would be lost: give another OUT")]
@@ -216,7 +215,7 @@ impl Seen {
         Seen {
             verified: Verified(Some(verified)),
             start: FIRST,
-            read: Some(read.saturating_sub(BEGINNING_BYTES)),
+            read: Some(read.saturating_sub(BEGINNING_BYTES as u64)),
             next: verified,
         }
     }

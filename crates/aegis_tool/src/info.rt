@@ -3,11 +3,11 @@
 use crate::command::{Place, Transfer};
 use crate::failure::{Failure, printed};
 use crate::output::{refuse_errors, refuse_inputs};
-use crate::progress::Counted;
-use crate::range::{lengths, read_prefix};
+use crate::progress::buffered;
+use crate::range::lengths;
 use crate::shown::Name;
 use aegis::record::{RECORD_BYTES, RECORD_HEAD_BYTES, RecordError};
-use aegis_files::{FileError, fill};
+use aegis_files::{FileError, fill, read_prefix};
 use std::fs::File;
 use std::io::Read;
 
@@ -74,7 +74,7 @@ fn outline_of<R: Read>(input: &mut R) -> Result<Outline, FileError> {
 // The outline of the file of this name.
 fn outline_of_file<'a>(rt: &HostRuntime, name: &'a str) -> Result<Outline, Failure<'a>> {
     let file = File::open(rt, name).map_err(|error| Failure::Input(Name(name), error))?;
-    match outline_of(&mut Counted::new(file, None)) {
+    match outline_of(&mut buffered(rt, file, None)?) {
         Ok(seen) => Ok(seen),
         Err(error) => Err(Failure::of_outline(error, Place::File(name))),
     }
@@ -90,7 +90,7 @@ pub fn info<'a>(rt: &HostRuntime, paths: Transfer<'a>) -> Result<(), Failure<'a>
     let input = paths.input;
     let seen = match input {
         Place::File(name) => outline_of_file(rt, name)?,
-        _ => match outline_of(&mut Counted::new(rt.stdin(), None)) {
+        _ => match outline_of(&mut buffered(rt, rt.stdin(), None)?) {
             Ok(seen) => seen,
             Err(error) => return Err(Failure::of_outline(error, input)),
         },

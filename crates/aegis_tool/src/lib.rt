@@ -13,14 +13,17 @@ mod shown;
 mod socket;
 mod terminal;
 mod transfer;
-mod version;
 
 use command::{Action, command, parse};
 use failure::{FAILED, Failure, MISUSED, Stopped, printed};
 use notes::NOTES;
 use output::at_the_start;
-use shown::Lines;
+use shown::Word;
+use std::alloc::AllocError;
 use std::io::ErrorKind;
+
+// The version of the program, which is that of the C header too.
+const VERSION: &str = "0.1.0";
 
 fn act<'a>(rt: &HostRuntime, action: Option<Action<'a>>) -> Result<(), Stopped<'a>> {
     match action {
@@ -55,29 +58,57 @@ fn end(rt: &HostRuntime, ended: Result<(), Stopped<'_>>) -> u8 {
     stopped.failure.status()
 }
 
-// Prints help or the version, or the error of a command line that is not understood, and returns the exit status.
-fn answer(rt: &HostRuntime, error: &clap::Error) -> anyhow::Result<u8> {
-    if !error.use_stderr() {
-        return Ok(match printed(error.print(rt)) {
-            Ok(()) => 0,
-            Err(failure) => end(rt, Err(Stopped::from(failure))),
-        });
+// Prints help or the version, and returns the exit status.
+fn inform(rt: &HostRuntime, text: &clap::Error) -> u8 {
+    match printed(text.print(rt)) {
+        Ok(()) => 0,
+        Err(failure) => end(rt, Err(Stopped::from(failure))),
     }
+}
+
+// The error of a command line, if it is not understood.
+fn error_of(rt: &HostRuntime, words: &[String]) -> anyhow::Result<Option<clap::Error>> {
+    match command(rt.alloc(), VERSION, NOTES)?.try_get_matches_from(words) {
+        Ok(_) => Ok(None),
+        Err(error) => Ok(Some(error)),
+    }
+}
+
+// Prints the error of a command line that is not understood, and returns the exit status.
+fn say_error(rt: &HostRuntime, error: &clap::Error) -> u8 {
     if matches!(error.kind(), clap::error::ErrorKind::OutOfMemory) {
-        return Ok(end(rt, Err(Stopped::from(Failure::OutOfMemory))));
+        return end(rt, Err(Stopped::from(Failure::OutOfMemory)));
     }
-    let message = format!(in rt.alloc(); "{error}")?;
-    let _ = eprint!(rt; "{}", Lines(message.as_str()));
-    Ok(MISUSED)
+    let _ = eprint!(rt; "{error}");
+    MISUSED
+}
+
+// Returns the words as messages show them.
+fn escaped(rt: &HostRuntime, words: &[String]) -> Result<Vec<String>, AllocError> {
+    let mut shown = Vec::new(rt.alloc());
+    for word in words {
+        shown.push(format!(in rt.alloc(); "{}", Word(word.as_str()))?)?;
+    }
+    Ok(shown)
+}
+
+// Says what is wrong with a command line, and returns the exit status. The words are escaped before the error is made
+// of them, so that none adds a line to it.
+fn misuse(rt: &HostRuntime, words: &[String]) -> anyhow::Result<u8> {
+    let shown = escaped(rt, words)?;
+    match error_of(rt, shown.as_slice())? {
+        Some(error) => Ok(say_error(rt, &error)),
+        // The words are understood: before, memory ran out.
+        None => Ok(end(rt, Err(Stopped::from(Failure::OutOfMemory)))),
+    }
 }
 
 // Carries out the command line, and returns the exit status. It is an error if memory runs out.
 fn carry_out(rt: &HostRuntime, words: &[String]) -> anyhow::Result<u8> {
-    let version = version::text(rt)?;
-    let commands = command(rt.alloc(), version.as_str(), NOTES)?;
-    match commands.try_get_matches_from(words) {
+    match command(rt.alloc(), VERSION, NOTES)?.try_get_matches_from(words) {
         Ok(matches) => Ok(end(rt, act(rt, parse(&matches)))),
-        Err(error) => answer(rt, &error),
+        Err(error) if error.use_stderr() => misuse(rt, words),
+        Err(text) => Ok(inform(rt, &text)),
     }
 }
 

@@ -17,7 +17,7 @@ Exit status:
   1  the sealed file is rejected, or --from is past the end of the contents
   2  the command line is wrong
   3  any other failure: I/O, memory, a bad key file, or a rejected OUT
-  127  the processor is too old, or the build for it is missing
+  127  the processor is older than x86-64-v2
 
 Files:
   Outputs get mode 0600. File names must be UTF-8.

@@ -185,7 +185,7 @@ pub fn at_the_start<'a>(
 /// Returns an error if the output is new and names a device or a pipe, which is then the input by its descriptor.
 pub fn refuse_own_descriptor<'a>(rt: &HostRuntime, paths: Transfer<'a>) -> Result<(), Failure<'a>> {
     match fs::metadata(rt, name_of(paths.output)) {
-        Ok(found) if paths.is_new && !found.is_file() => Err(Failure::Appeared(
+        Ok(found) if paths.is_new && !found.is_file() => Err(Failure::Exchanged(
             paths.output.output_name(),
         )),
         _ => Ok(()),
@@ -296,7 +296,7 @@ fn open_stream<'a>(rt: &HostRuntime, name: &'a str) -> Result<File, Failure<'a>>
         .map_err(failed)?;
     let file = opened.try_clone().map_err(failed)?;
     if file.metadata().map_err(failed)?.is_file() {
-        return Err(Failure::Exists(Name(name)));
+        return Err(Failure::Exchanged(Name(name)));
     }
     Ok(file)
 }

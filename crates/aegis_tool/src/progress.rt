@@ -2,8 +2,9 @@
 
 ghost use Rattle.std.specs.Prelude.{None};
 
+use crate::failure::Failure;
 use std::io;
-use std::io::{ErrorKind, Read, Write};
+use std::io::{BufReader, ErrorKind, Read, Write};
 use std::time::Instant;
 
 /// The number of bytes from one message to the next.
@@ -169,6 +170,21 @@ impl<R: Read + Drop> Read for Counted<'_, R> {
             }
         }
         Ok(count)
+    }
+}
+
+// The most bytes of a message that a pipe keeps in one piece (`PIPE_BUF`). A shorter read would lose the rest of it.
+const MESSAGE_BYTES: usize = 4096;
+
+/// Counts an input, and reads at least one message of a pipe at a time from it.
+pub fn buffered<'a, 'r, R: Read + Drop>(
+    rt: &HostRuntime,
+    inner: R,
+    display: Option<Display<'r>>,
+) -> Result<Counted<'r, BufReader<R>>, Failure<'a>> {
+    match BufReader::with_capacity(rt.alloc(), MESSAGE_BYTES, inner) {
+        Ok(reader) => Ok(Counted::new(reader, display)),
+        Err(_) => Err(Failure::OutOfMemory),
     }
 }
 

@@ -10,19 +10,11 @@ use crate::failure::PartError;
 use aegis::record::{
     RECORD_BYTES, RECORD_HEAD_BYTES, RecordError, RecordOpener, RecordPosition, Version,
 };
-use aegis_files::{ContentsRange, FileError, OpenedRange, fill};
-use std::fs::File;
-use std::io::{Read, Seek, SeekFrom};
-
-/// How many bytes a file has in front of its first record: the prefix and the header.
-pub const BEGINNING_BYTES: u64 = 28;
-
-/// The position of the first record of a file.
-pub const FIRST: RecordPosition = RecordPosition {
-    version: Version::Second,
-    number: 0,
-    before: 0,
+use aegis_files::{
+    BEGINNING_BYTES, ContentsRange, FIRST, FileError, OpenedRange, fill, read_prefix,
 };
+use std::fs::File;
+use std::io::{Seek, SeekFrom};
 
 /// Where a part of the contents begins, and how long it is.
 #[derive(Clone, Copy)]
@@ -58,26 +50,6 @@ pub fn is_reachable(range: &ContentsRange) -> bool
 /// The most records, and the most bytes of contents, that come before a record in any file.
 pub const MOST: u64 = 1 << 54;
 
-// Fills a buffer from an input, which ends with this fault if it is shorter.
-fn read<R: Read>(input: &mut R, buffer: &mut [u8], short: RecordError) -> Result<(), FileError> {
-    if fill(input, buffer)? < buffer.len() {
-        return Err(FileError::Stream(short));
-    }
-    Ok(())
-}
-
-/// Reads the prefix and the header of a sealed file, and returns the prefix.
-pub fn read_prefix<R: Read>(input: &mut R) -> Result<[u8; 24], FileError> {
-    let mut prefix = [0; 24];
-    read(input, &mut prefix, RecordError::Header)?;
-    let mut header = [0; 4];
-    read(input, &mut header, RecordError::Header)?;
-    if header.as_slice() != Version::Second.header() {
-        return Err(FileError::Stream(RecordError::Header));
-    }
-    Ok(prefix)
-}
-
 // Goes to a byte of a file.
 fn seek(file: &mut File, byte: u64) -> Result<(), FileError> {
     match file.seek(SeekFrom::Start(byte)) {
@@ -107,7 +79,9 @@ fn look(
     position: RecordPosition,
 ) -> Result<Found, FileError> {
     let mut head = [0; RECORD_HEAD_BYTES];
-    read(file, &mut head, RecordError::Truncated)?;
+    if fill(file, &mut head)? < head.len() {
+        return Err(FileError::Stream(RecordError::Truncated));
+    }
     let length = lengths.record_len(&head)? as u64;
     Ok(Found {
         position,
@@ -122,7 +96,7 @@ fn byte_of(position: RecordPosition) -> u64 {
         .number
         .saturating_mul(RECORD_BYTES)
         .saturating_add(position.before)
-        .saturating_add(BEGINNING_BYTES)
+        .saturating_add(BEGINNING_BYTES as u64)
 }
 
 impl Found {

@@ -2,30 +2,33 @@
 
 use std::fmt;
 
-/// A name in a message. Its characters that cannot be printed are escaped as Rust escapes them.
+/// A word of the command line in a message. Its characters that cannot be printed are escaped as Rust escapes them.
+#[derive(Clone, Copy, Debug)]
+pub struct Word<'a>(pub &'a str);
+
+impl fmt::Display for Word<'_> {
+    fn fmt<W: fmt::Write>(&self, f: &mut fmt::Formatter<W>) -> fmt::Result {
+        for character in self.0.chars() {
+            match character {
+                '\'' | '"' => write!(f, "{character}")?,
+                _ => write!(f, "{}", character.escape_debug())?,
+            }
+        }
+        Ok(())
+    }
+}
+
+/// A name in a message, escaped like a word. An empty name is shown as two quotation marks.
 #[derive(Clone, Copy, Debug)]
 pub struct Name<'a>(pub &'a str);
 
 impl fmt::Display for Name<'_> {
     fn fmt<W: fmt::Write>(&self, f: &mut fmt::Formatter<W>) -> fmt::Result {
-        write_escaped(f, self.0, false)
-    }
-}
-
-// Writes a text with its characters escaped but quotation marks, and line feeds if it has several lines.
-fn write_escaped<W: fmt::Write>(
-    f: &mut fmt::Formatter<W>,
-    text: &str,
-    has_lines: bool,
-) -> fmt::Result {
-    for character in text.chars() {
-        match character {
-            '\'' | '"' => write!(f, "{character}")?,
-            '\n' if has_lines => write!(f, "{character}")?,
-            _ => write!(f, "{}", character.escape_debug())?,
+        match self.0 {
+            "" => write!(f, "''"),
+            name => write!(f, "{}", Word(name)),
         }
     }
-    Ok(())
 }
 
 /// How many bytes of the contents were verified before a fault, if they were counted.
@@ -50,20 +53,14 @@ impl fmt::Display for Lost {
         match self.0 {
             Some((from, end)) if from < end => write!(
                 f,
-                " (bytes {from} to {} of the contents, if the length of the record is right; for the rest, try --from {end})",
+                " (bytes {from} to {} of the contents, if the length of the record is right; if anything follows, try --from {end})",
                 end - 1
             ),
-            _ => Ok(()),
+            Some((_, end)) => write!(
+                f,
+                " (no byte of the contents, if the length of the record is right; if anything follows, try --from {end})"
+            ),
+            None => Ok(()),
         }
-    }
-}
-
-/// The text of a message of several lines, each with its characters escaped as those of a name.
-#[derive(Clone, Copy, Debug)]
-pub struct Lines<'a>(pub &'a str);
-
-impl fmt::Display for Lines<'_> {
-    fn fmt<W: fmt::Write>(&self, f: &mut fmt::Formatter<W>) -> fmt::Result {
-        write_escaped(f, self.0, true)
     }
 }

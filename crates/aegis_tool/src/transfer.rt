@@ -8,7 +8,7 @@ use crate::output::{
     Target, is_terminal, open_target, refuse_errors, refuse_inputs, refuse_key,
     refuse_own_descriptor, refuse_terminal,
 };
-use crate::progress::{Counted, Display, Measured};
+use crate::progress::{Counted, Display, Measured, buffered};
 use crate::range::{Start, is_reachable, start_of};
 use crate::shown::Name;
 use crate::socket::keeps_messages;
@@ -17,7 +17,7 @@ use aegis::aegis256::Key;
 use aegis_files::{FileError, open_range, open_stream, rekey_stream, seal_stream};
 use std::alloc::Global;
 use std::fs::File;
-use std::io::{BufReader, IsTerminal, Read, Write};
+use std::io::{IsTerminal, Read, Write};
 use std::random::RandomSource;
 use std::time::Instant;
 use std::{env, io};
@@ -117,10 +117,9 @@ fn carry_out<'a, R: Read + Drop, W: Write + Drop>(
     };
     let seen = seen(task, input, output.written);
     let failure = match (task, error) {
-        (Task::OpenPart { .. }, error) => {
-            Failure::of_part(error, paths.input, paths.output, seen)
+        (Task::Seal { .. } | Task::Open { .. } | Task::Rekey { .. }, PartError::File(error)) => {
+            Failure::of_files(error, paths.input, paths.output, seen)
         }
-        (_, PartError::File(error)) => { Failure::of_files(error, paths.input, paths.output, seen) }
         (_, error) => Failure::of_part(error, paths.input, paths.output, seen),
     };
     // Of the write that has failed a part may be there.
@@ -192,21 +191,6 @@ fn length_of(file: &File) -> Option<u64> {
     }
 }
 
-// The most bytes of a message that a pipe keeps in one piece (`PIPE_BUF`). A shorter read would lose the rest of it.
-const MESSAGE_BYTES: usize = 4096;
-
-// An input that is counted. It is read at least one message of a pipe at a time.
-fn counted<'a, 'r, R: Read + Drop>(
-    rt: &HostRuntime,
-    inner: R,
-    shown: Option<Display<'r>>,
-) -> Result<Counted<'r, BufReader<R>>, Failure<'a>> {
-    match BufReader::with_capacity(rt.alloc(), MESSAGE_BYTES, inner) {
-        Ok(reader) => Ok(Counted::new(reader, shown)),
-        Err(_) => Err(Failure::OutOfMemory),
-    }
-}
-
 // Opens an input of this name. A named output may lead elsewhere then: that may have taken long, if it is a pipe, or it
 // has the descriptor that the output names.
 fn open_input<'a>(
@@ -235,13 +219,13 @@ fn transfer<'a>(
         Place::File(name) => {
             let file = open_input(rt, name, paths, keys)?;
             let shown = display(rt, quiet, length_of(&file));
-            let mut input = counted(rt, file, shown)?;
+            let mut input = buffered(rt, file, shown)?;
             let written = write_to(rt, task, paths, &mut input);
             input.end();
             written
         }
         _ => {
-            let mut input = counted(rt, rt.stdin(), display(rt, quiet, None))?;
+            let mut input = buffered(rt, rt.stdin(), display(rt, quiet, None))?;
             let written = write_to(rt, task, paths, &mut input);
             input.end();
             written
@@ -372,13 +356,13 @@ pub fn check<'a>(rt: &HostRuntime, paths: Transfer<'a>) -> Result<(), Failure<'a
         Place::File(name) => {
             let file = File::open(rt, name).map_err(|error| Failure::Input(Name(name), error))?;
             let shown = display(rt, paths.quiet, length_of(&file));
-            let mut input = counted(rt, file, shown)?;
+            let mut input = buffered(rt, file, shown)?;
             let checked = check_from(rt, &task, paths, &mut input);
             input.end();
             checked?
         }
         _ => {
-            let mut input = counted(rt, rt.stdin(), display(rt, paths.quiet, None))?;
+            let mut input = buffered(rt, rt.stdin(), display(rt, paths.quiet, None))?;
             let checked = check_from(rt, &task, paths, &mut input);
             input.end();
             checked?

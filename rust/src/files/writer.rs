@@ -1,8 +1,8 @@
 //! Sealing a file.
 
 use super::{CONTEXT, HEAD_BYTES, Key, PIECE_BYTES};
+use crate::fill_random;
 use crate::memory::zeros;
-use crate::random::fill_random;
 use crate::records::{Prefix, RECORD_BYTES, RECORD_HEAD_BYTES, Sealer};
 use crate::wipe::Wiped;
 use alloc::vec::Vec;

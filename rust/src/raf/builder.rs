@@ -1,7 +1,8 @@
 //! How a file is created or opened.
 
 use super::engine::{Draws, Engine, draw};
-use super::io::{Beside, FileIo, JournalChoice, JournalFile, RafIo};
+use super::file::{Beside, FileIo, JournalFile};
+use super::io::{JournalChoice, RafIo};
 use super::rng::{DefaultRng, RafRng};
 use super::{Algorithm, Error, Raf, Result, default_chunk_size};
 use core::fmt;

@@ -446,7 +446,7 @@ impl<A: Algorithm, I: RafIo, R: RafRng, J: RafIo> Drop for Engine<A, I, R, J> {
 
 #[cfg(all(test, feature = "raf"))]
 mod tests {
-    use crate::raf::io::tests::Paths;
+    use crate::raf::file::tests::Paths;
     use crate::raf::layout::{Layout, PageHeader};
     use crate::raf::{Aegis256, Error, FileIo, MAX_SIZE, NoJournal, OsRng, Raf, RafBuilder};
 

@@ -1,7 +1,7 @@
 //! How a file is laid out: its header and its pages, which the library seals and opens.
 
-use super::Algorithm;
 use super::journal::{JournalSeal, NONCE_BYTES, START_BYTES};
+use super::{Algorithm, Error, RafIo, Result};
 use crate::exports::{self, State};
 use crate::memory::zeros;
 use crate::wipe::Wiped;
@@ -14,8 +14,6 @@ const READ_BYTES: usize = 64 * 1024;
 pub const TAG_BYTES: usize = 32;
 /// The length of the header block.
 pub const HEADER_BLOCK_BYTES: usize = 512;
-/// Where the first page is.
-const FIRST_PAGE: u64 = 4096;
 /// The length of a file's id.
 pub const ID_BYTES: usize = 24;
 /// The length of the plaintext part of a header: the magic number, the algorithm, the chunk size and the id.
@@ -59,7 +57,7 @@ impl<A: Algorithm> Layout<A> {
 
     /// Where a page begins.
     pub fn page_place(&self, number: u64) -> u64 {
-        FIRST_PAGE + number * self.page_bytes() as u64
+        exports::hunkravy_page_place(A::NUMBER, self.chunk_size, number)
     }
 
     /// How many pages contents of `size` bytes have.
@@ -133,6 +131,72 @@ pub fn open_header<A: Algorithm>(key: &A::Key, header_block: &[u8; HEADER_BLOCK_
         &mut header.contents_len,
     );
     opened.ok().map(|()| header)
+}
+
+/// The algorithm that a header names.
+#[derive(Clone, Copy, Debug, PartialEq, Eq, Hash)]
+pub enum AlgorithmId {
+    /// [`Aegis128L`](super::Aegis128L)
+    Aegis128L,
+    /// [`Aegis128X2`](super::Aegis128X2)
+    Aegis128X2,
+    /// [`Aegis128X4`](super::Aegis128X4)
+    Aegis128X4,
+    /// [`Aegis256`](super::Aegis256)
+    Aegis256,
+    /// [`Aegis256X2`](super::Aegis256X2)
+    Aegis256X2,
+    /// [`Aegis256X4`](super::Aegis256X4)
+    Aegis256X4,
+}
+
+impl AlgorithmId {
+    /// Returns the algorithm of the byte in a header: the length of its keys, and its number of lanes.
+    fn of_byte(byte: u8) -> Option<Self> {
+        Some(match byte {
+            17 => AlgorithmId::Aegis128L,
+            18 => AlgorithmId::Aegis128X2,
+            20 => AlgorithmId::Aegis128X4,
+            33 => AlgorithmId::Aegis256,
+            34 => AlgorithmId::Aegis256X2,
+            36 => AlgorithmId::Aegis256X4,
+            _ => return None,
+        })
+    }
+}
+
+/// The plaintext part of a header. It is not verified.
+#[derive(Clone, Copy, Debug, PartialEq, Eq)]
+#[non_exhaustive]
+pub struct RafInfo {
+    /// The algorithm.
+    pub algorithm: AlgorithmId,
+    /// The number of bytes of contents in a page.
+    pub chunk_size: u32,
+    /// The number of bytes of the file. The length of its contents is encrypted.
+    pub file_size: u64,
+}
+
+/// Returns the plaintext part of the header of a file. No key is needed, and nothing is verified or changed.
+///
+/// # Errors
+///
+/// [`Error::Header`] if it is not a file of this format, or [`Error::Io`].
+pub fn probe(io: &mut impl RafIo) -> Result<RafInfo> {
+    let file_size = io.get_size()?;
+    if file_size < HEADER_BLOCK_BYTES as u64 {
+        return Err(Error::Header);
+    }
+    let mut plaintext = [0; PLAINTEXT_HEADER_BYTES];
+    io.read_at(&mut plaintext, 0)?;
+    let [_, _, _, _, byte, size @ ..] = plaintext;
+    let chunk_size = u32::from_le_bytes([size[0], size[1], size[2], size[3]]);
+    match AlgorithmId::of_byte(byte) {
+        Some(algorithm) if plaintext[..4] == MAGIC && is_chunk_size(chunk_size) => {
+            Ok(RafInfo { algorithm, chunk_size, file_size })
+        }
+        _ => Err(Error::Header),
+    }
 }
 
 #[cfg(test)]

@@ -2,20 +2,33 @@
 //! other contracts cite.
 
 ghost use Rattle.std.specs.Prelude.{◌≡◌, ◌<◌, ◌++◌, List, length, ℕ};
-ghost use Rattle.aegis.specs.RecordStream.{AreRecords, IsFault, IsOneFault, IsOneRecordStream, limit, max_context_bytes, records_length, sealed};
+ghost use Rattle.aegis_base.specs.Message.{erased_byte};
+ghost use Rattle.aegis.specs.RecordStream.{AreRecords, IsFault, IsOneFault, IsOneRecordStream, header, limit, max_context_bytes, record_overhead, records_length, sealed};
 ghost use Rattle.aegis.specs.Calls.{AreRecordsOfSomeVersion, Begun, Progress, start_of};
 ghost use Rattle.aegis.specs.declared.record.error.RecordError.TheVariants.{Trailing};
 ghost use Rattle.aegis.specs.declared.record.version.Version.{Version};
 
+use crate::record::length::{HEADER_BYTES, RECORD_BYTES};
 use crate::record::record_cipher::MAX_CONTEXT_BYTES;
 use crate::record::version::{MAX_MESSAGE_BYTES, Version};
+use aegis_engine::ERASED;
 
-/// The limits are those of the definitions.
+/// The limits are those of the definitions, and so are the lengths of a header, and of a record without its message.
 pub fn record_limits()
     ensures context { MAX_CONTEXT_BYTES ≡ max_context_bytes }
     ensures message { MAX_MESSAGE_BYTES ≡ limit Version.Second }
+    ensures header { HEADER_BYTES ≡ length (header Version.Second) }
+    ensures record { RECORD_BYTES ≡ record_overhead }
 {
     let (_context, _message) = (MAX_CONTEXT_BYTES, MAX_MESSAGE_BYTES);
+    let (_header, _record) = (HEADER_BYTES, RECORD_BYTES);
+}
+
+/// What overwrites a message that is not authentic is the byte of the definitions.
+pub fn erased_message()
+    ensures { ERASED ≡ erased_byte }
+{
+    let _erased = ERASED;
 }
 
 /// Under one key, prefix and context two lists of messages, or two versions, never have the same stream, and no stream

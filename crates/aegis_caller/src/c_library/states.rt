@@ -9,7 +9,7 @@ use aegis_base::SavedLanes;
 use aegis_c_calls::refusal::Refusal;
 use aegis_c_calls::state::*;
 
-/// Seals a message of two chunks.
+/// Seals a message of two chunks, the first in place, and the second into another buffer.
 pub fn sealed_in_two<S: SavedLanes, const N: usize>(
     variant: u32,
     st: &mut State,
@@ -17,21 +17,23 @@ pub fn sealed_in_two<S: SavedLanes, const N: usize>(
     npub: &[u8],
     k: &[u8],
     first: &mut [u8],
-    second: &mut [u8],
+    second: &[u8],
+    sealed: &mut [u8],
     mac: &mut [u8],
 ) -> Result<(), Refusal>
-    requires { N ≡ key_length S.VARIANT.family }
-    ensures { OnOk result ((first.new ++ second.new, mac.new)
-        ≡ seal S.VARIANT (length mac.old) k.now npub.now ad.now (first.old ++ second.old)) }
+    requires family { N ≡ key_length S.VARIANT.family }
+    requires lengths { length second.now ≡ length sealed.old }
+    ensures { OnOk result ((first.new ++ sealed.new, mac.new)
+        ≡ seal S.VARIANT (length mac.old) k.now npub.now ad.now (first.old ++ second.now)) }
 {
     begin::<S, N>(st, variant, MESSAGE, ad, npub, k)?;
-    encrypt_in_place::<S>(st, first)?;
-    encrypt_in_place::<S>(st, second)?;
+    encrypt::<S>(st, None, first)?;
+    encrypt::<S>(st, Some(second), sealed)?;
     encrypt_final::<S>(st, mac)?;
     Ok(())
 }
 
-/// Opens a ciphertext of two chunks.
+/// Opens a ciphertext of two chunks, the first in place, and the second into another buffer.
 pub fn opened_in_two<S: SavedLanes, const N: usize>(
     variant: u32,
     st: &mut State,
@@ -39,16 +41,18 @@ pub fn opened_in_two<S: SavedLanes, const N: usize>(
     npub: &[u8],
     k: &[u8],
     first: &mut [u8],
-    second: &mut [u8],
+    second: &[u8],
+    opened: &mut [u8],
     mac: &[u8],
 ) -> Result<(), Refusal>
-    requires { N ≡ key_length S.VARIANT.family }
+    requires family { N ≡ key_length S.VARIANT.family }
+    requires lengths { length second.now ≡ length opened.old }
     ensures { OnOk result (Opens S.VARIANT (length mac.now)
-        k.now npub.now ad.now (first.old ++ second.old) mac.now (first.new ++ second.new)) }
+        k.now npub.now ad.now (first.old ++ second.now) mac.now (first.new ++ opened.new)) }
 {
     begin::<S, N>(st, variant, MESSAGE, ad, npub, k)?;
-    decrypt_in_place_unverified::<S>(st, first)?;
-    decrypt_in_place_unverified::<S>(st, second)?;
+    decrypt_unverified::<S>(st, None, first)?;
+    decrypt_unverified::<S>(st, Some(second), opened)?;
     decrypt_final::<S>(st, &mut [], mac)?;
     Ok(())
 }
@@ -106,7 +110,7 @@ pub fn refused_after_the_tag<S: SavedLanes>(
     ensures refused { OnOk result ⊥ }
 {
     encrypt_final::<S>(st, mac)?;
-    encrypt_in_place::<S>(st, mc)?;
+    encrypt::<S>(st, None, mc)?;
     Ok(())
 }
 
@@ -120,7 +124,7 @@ pub fn refused_in_the_other_direction<S: SavedLanes>(
     ensures refused { OnOk result ⊥ }
 {
     decrypt_check::<S>(st, c)?;
-    encrypt_in_place::<S>(st, mc)?;
+    encrypt::<S>(st, None, mc)?;
     Ok(())
 }
 

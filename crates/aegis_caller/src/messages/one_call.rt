@@ -47,6 +47,26 @@ pub fn open(
     Aegis128L::<16>::new(key, nonce).decrypt_in_place(buffer, tag, associated_data)
 }
 
+/// Seals a message into one buffer, and opens it into another, which is then the message.
+pub fn sealed_and_opened_into(
+    key: &[u8; 16],
+    nonce: &[u8; 16],
+    associated_data: &[u8],
+    message: &[u8],
+    sealed: &mut [u8],
+    opened: &mut [u8],
+) -> Result<(), Error>
+    requires sealed_length { length message.now ≡ length sealed.old }
+    requires opened_length { length message.now ≡ length opened.old }
+    requires message_within { length message.now ≤ MAX_AEAD_BYTES }
+    requires associated_data_within { length associated_data.now ≤ MAX_AEAD_BYTES }
+    ensures accepted { IsOk result }
+    ensures same { opened.new ≡ message.now }
+{
+    let tag = Aegis128L::<32>::new(key, nonce).encrypt_into(message, sealed, associated_data);
+    Aegis128L::new(key, nonce).decrypt_into(sealed, opened, &tag, associated_data)
+}
+
 /// Seals into a fresh vector.
 pub fn seal_to_vec<A: Allocator>(
     alloc: A,

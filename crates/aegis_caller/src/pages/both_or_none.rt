@@ -13,7 +13,7 @@ use std::alloc::Allocator;
 use std::io;
 
 /// Makes writes. Whatever it returns, a crash leaves a storage and a journal from which recovery makes all of them or
-/// none, unless it leaves another whole journal. The journal is empty, or what the steps leave of the one of this nonce.
+/// none, unless it leaves another whole journal. The journal is empty, or what the steps leave of that of this nonce.
 pub fn write_all<S: Storage, J: Storage, A: Allocator + Copy>(
     alloc: A,
     storage: &mut S,
@@ -23,7 +23,7 @@ pub fn write_all<S: Storage, J: Storage, A: Allocator + Copy>(
     nonce: &Nonce,
     writes: &[PendingWrite<A>],
 ) -> io::Result<()>
-    ensures { (xs : List ℕ) → IsAtRest (S.disk storage.old) (J.disk journal.old) xs
+    ensures recovers { (xs : List ℕ) → IsAtRest (S.disk storage.old) (J.disk journal.old) xs
         → RecoversUnlessOtherJournal key.now [] xs (writes_of writes.now)
         (S.disk storage.new) (J.disk journal.new) }
     ensures journal { (xs : List ℕ) → IsAtRest (S.disk storage.old) (J.disk journal.old) xs
@@ -67,7 +67,8 @@ pub fn write_these<S: Storage, J: Storage, A: Allocator + Copy>(
 ) -> io::Result<()>
     requires { writes_of writes.now ≡ (places.0, first.now) ∷ (places.1, second.now) ∷ [] }
     ensures { (xs : List ℕ) → IsAtRest (S.disk storage.old) (J.disk journal.old) xs
-        → RecoversUnlessOtherJournal key.now [] xs ((places.0, first.now) ∷ (places.1, second.now) ∷ [])
+        → RecoversUnlessOtherJournal key.now [] xs
+        ((places.0, first.now) ∷ (places.1, second.now) ∷ [])
         (S.disk storage.new) (J.disk journal.new) }
 {
     write_all(alloc, storage, journal, key, beginning, nonce, writes)
@@ -89,7 +90,8 @@ pub fn write_both<S: Storage, J: Storage, A: Allocator + Copy>(
     requires first { places.0 + length first.now ≤ MAX_STORAGE_BYTES }
     requires second { places.1 + length second.now ≤ MAX_STORAGE_BYTES }
     ensures recovers { (xs : List ℕ) → IsAtRest (S.disk storage.old) (J.disk journal.old) xs
-        → RecoversUnlessOtherJournal key.now [] xs ((places.0, first.now) ∷ (places.1, second.now) ∷ [])
+        → RecoversUnlessOtherJournal key.now [] xs
+        ((places.0, first.now) ∷ (places.1, second.now) ∷ [])
         (S.disk storage.new) (J.disk journal.new) }
 {
     recovers_at_rest();

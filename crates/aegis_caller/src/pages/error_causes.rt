@@ -52,9 +52,12 @@ pub fn commit_twice<S: Storage + Drop, J: Storage + Drop, N: Nonces + Drop, A: A
 }
 
 /// Takes the commitment of a file, and compares it again: a broken file has none.
-pub fn commitment_again<S: Storage + Drop, J: Storage + Drop, N: Nonces + Drop, A: Allocator + Copy>(
-    pages: &SealedPages<S, J, N, A>,
-) -> Result<(), PagesError>
+pub fn commitment_again<
+    S: Storage + Drop,
+    J: Storage + Drop,
+    N: Nonces + Drop,
+    A: Allocator + Copy,
+>(pages: &SealedPages<S, J, N, A>) -> Result<(), PagesError>
     ensures { pages.now.broken ≡ true → result ≡ Err PagesError.Broken }
 {
     let commitment = pages.commitment()?;

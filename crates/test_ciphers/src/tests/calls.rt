@@ -5,7 +5,7 @@ use aegis::aegis128l::Aegis128LMac;
 use aegis::aegis256::Aegis256;
 use aegis::aegis256x2::Aegis256X2;
 use aegis::aegis256x4::Aegis256X4Mac;
-use aegis::{Error, MAX_AEAD_BYTES, chunks_len};
+use aegis::{ERASED, Error, MAX_AEAD_BYTES, chunks_len};
 use aegis_base::counted;
 use aegis_variants::VARIANTS;
 use hex::FromHex;
@@ -51,6 +51,19 @@ fn the_example_is_sealed_elsewhere(rt: HostRuntime) -> Result<(), Fail> {
     let mut encryptor = aegis256().encryptor(&ASSOCIATED_DATA);
     encryptor.update(&MESSAGE, &mut sealed);
     check_sealed(&rt, &sealed, &encryptor.finalize(), "elsewhere")
+}
+
+#[test]
+fn the_example_in_one_call(rt: HostRuntime) -> Result<(), Fail> {
+    let (mut sealed, mut opened) = ([0; 114], [0; 114]);
+    let tag = aegis256().encrypt_into(&MESSAGE, &mut sealed, &ASSOCIATED_DATA);
+    check_sealed(&rt, &sealed, &tag, "elsewhere")?;
+    aegis256().decrypt_into(&sealed, &mut opened, &tag, &ASSOCIATED_DATA)?;
+    assert_bytes(&rt, &opened, &MESSAGE, &"elsewhere");
+    let refused = aegis256().decrypt_into(&sealed, &mut opened, &[0; 16], &ASSOCIATED_DATA);
+    assert_eq!(rt; refused, Err(Error::InvalidTag));
+    assert_bytes(&rt, &opened, &[ERASED; 114], &"a wrong tag");
+    Ok(())
 }
 
 #[test]

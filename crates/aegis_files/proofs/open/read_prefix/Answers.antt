@@ -8,7 +8,7 @@ use Rattle.aegis_files.proofs.open.read_prefix.Goals as goal
 pub returns-clause-read : goal.returns-clause-read
 returns-clause-read g c =
     let size : length c.fill.new.buffer ≡ 28 = c.fill.auto.buffer in
-    let whole = take_all c.in_ok-fill.field-0 c.fill.new.buffer (omega (arith, size, c.if-branch-lt-HEAD_BYTES.false)) in
+    let whole = take_all c.in_ok-fill.field-0 c.fill.new.buffer (omega (arith, size, c.if-branch-lt-BEGINNING_BYTES.false)) in
     let same : c.split_at.result.1.now ≡ header Second = search rules in
     let all : take 24 c.fill.new.buffer ++ header Second ≡ c.fill.new.buffer =
     ap (λ l. take 24 c.fill.new.buffer ++ l) (sym same ∙ c.split_at.ensures.back) ∙ take-append-drop 24 c.fill.new.buffer in

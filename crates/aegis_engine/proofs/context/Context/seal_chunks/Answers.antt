@@ -16,8 +16,8 @@ slice_bounds-part-end g c =
     let more = chunk-within c.args.chunks.now c.loop-chunk.chunk-index c.loop-chunk-test.true in
     omega (arith, c.loop-chunk.invariant.at, c.loop-chunk.auto.out, c.requires.lengths)
 
-pub pass_from-requires-clause-within : goal.pass_from-requires-clause-within
-pass_from-requires-clause-within g c =
+pub pass-requires-clause-within : goal.pass-requires-clause-within
+pass-requires-clause-within g c =
     let more = chunk-within c.args.chunks.now c.loop-chunk.chunk-index c.loop-chunk-test.true in
     omega (arith, c.loop-chunk.invariant.at, c.loop-chunk.invariant.counted, c.requires.lengths, c.requires.within, c.message_bytes.ensures)
 
@@ -29,13 +29,13 @@ loop-chunk-preserved g c =
     let long = ap length more ∙ length-append (joined (take i chunks)) (get_or chunks i no_chunk).now in
     record {
       at = omega (arith, before.at, long);
-      counted = omega (arith, before.counted, c.pass_from.ensures.length);
+      counted = omega (arith, before.counted, c.pass.ensures.length);
       taken = λ key nonce ad m is.
           rw (more, ← append_assoc m (joined (take i chunks)) (get_or chunks i no_chunk).now)
-          (c.pass_from.ensures.taken key nonce ad _ (before.taken key nonce ad m is));
+          (c.pass.ensures.taken key nonce ad _ (before.taken key nonce ad m is));
       written = λ key nonce ad m is.
           let C = ciphertext g.S.LaneState.VARIANT key nonce ad in
-          let next : C ((m ++ joined (take i chunks)) ++ (get_or chunks i no_chunk).now) ≡ (C m ++ take c.loop-chunk.at c.loop-chunk.out) ++ c.pass_from.new.out =
-          rw (before.written key nonce ad m is) at (c.pass_from.ensures.written key nonce ad _ (before.taken key nonce ad m is)) in
+          let next : C ((m ++ joined (take i chunks)) ++ (get_or chunks i no_chunk).now) ≡ (C m ++ take c.loop-chunk.at c.loop-chunk.out) ++ c.pass.new.mc =
+          rw (before.written key nonce ad m is) at (c.pass.ensures.written key nonce ad _ (before.taken key nonce ad m is)) in
           rw (more, ← append_assoc m (joined (take i chunks)) (get_or chunks i no_chunk).now) (next ∙ grind (arith, common_steps));
     }

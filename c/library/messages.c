@@ -1,15 +1,23 @@
 /*
  * The calls of hunkravy.h whose bodies are proved. Each passes its arguments on to a proved export. What is here, and is
- * tested and not proved: null pointers (proved.h), copies for calls that write to another buffer, and tags that lie
- * after their ciphertext. A call that copies asks a proved export first whether it will be refused, so that it then
- * writes nothing.
+ * tested and not proved: null pointers (proved.h), buffers that overlap, and tags that lie after their ciphertext. If the
+ * buffers of a message and of its ciphertext overlap, one is copied to the other, unless they are the same, and processed
+ * there. Such a call, and one whose tag lies after the ciphertext, asks a proved export first whether it will be refused.
  */
 #include "hunkravy.h"
 #include "proved.h"
 
+#include <stdbool.h>
 #include <string.h>
 
 typedef char a_state_has_672_bytes[sizeof(hunkravy_state) == 672 ? 1 : -1];
+
+/* Returns whether no byte is in both buffers. */
+static bool are_apart(const uint8_t *one, const uint8_t *other, size_t length)
+{
+    uintptr_t a = (uintptr_t)one, b = (uintptr_t)other;
+    return (a < b ? b - a : a - b) >= length;
+}
 
 /* Copies `length` bytes, unless they are there, and returns `to`. */
 static uint8_t *copy(uint8_t *to, const uint8_t *from, size_t length)
@@ -41,6 +49,10 @@ int hunkravy_decrypt_in_place(uint32_t variant, uint8_t *mc, size_t mclen, const
 int hunkravy_encrypt(uint32_t variant, uint8_t *c, const uint8_t *m, size_t mlen, const uint8_t *ad, size_t adlen,
     const uint8_t *npub, size_t npublen, const uint8_t *k, size_t klen, uint8_t *mac, size_t maclen)
 {
+    if (are_apart(c, m, mlen)) {
+        return hunkravy_proved_encrypt(
+            variant, IN(m, mlen), OUT(c, mlen), IN(ad, adlen), IN(npub, npublen), IN(k, klen), OUT(mac, maclen));
+    }
     int code = hunkravy_proved_check_lengths(variant, npublen, klen, mlen, adlen, maclen);
     return code != HUNKRAVY_OK
         ? code
@@ -50,6 +62,10 @@ int hunkravy_encrypt(uint32_t variant, uint8_t *c, const uint8_t *m, size_t mlen
 int hunkravy_decrypt(uint32_t variant, uint8_t *m, const uint8_t *c, size_t clen, const uint8_t *ad, size_t adlen,
     const uint8_t *npub, size_t npublen, const uint8_t *k, size_t klen, const uint8_t *mac, size_t maclen)
 {
+    if (are_apart(m, c, clen)) {
+        return hunkravy_proved_decrypt(
+            variant, IN(c, clen), OUT(m, clen), IN(ad, adlen), IN(npub, npublen), IN(k, klen), IN(mac, maclen));
+    }
     int code = hunkravy_proved_check_lengths(variant, npublen, klen, clen, adlen, maclen);
     return code != HUNKRAVY_OK
         ? code
@@ -60,9 +76,9 @@ int hunkravy_encrypt_combined(uint32_t variant, uint8_t *c, const uint8_t *m, si
     size_t adlen, const uint8_t *npub, size_t npublen, const uint8_t *k, size_t klen, size_t maclen)
 {
     int code = hunkravy_proved_check_lengths(variant, npublen, klen, mlen, adlen, maclen);
-    return code != HUNKRAVY_OK ? code
-                               : hunkravy_encrypt_in_place(variant, copy(c, m, mlen), mlen, ad, adlen, npub, npublen, k,
-                                     klen, c + mlen, maclen);
+    return code != HUNKRAVY_OK
+        ? code
+        : hunkravy_encrypt(variant, c, m, mlen, ad, adlen, npub, npublen, k, klen, c + mlen, maclen);
 }
 
 int hunkravy_decrypt_combined(uint32_t variant, uint8_t *m, const uint8_t *c, size_t clen, const uint8_t *ad,
@@ -73,9 +89,9 @@ int hunkravy_decrypt_combined(uint32_t variant, uint8_t *m, const uint8_t *c, si
     if (code == HUNKRAVY_OK && clen < maclen) {
         code = HUNKRAVY_INVALID_TAG;
     }
-    return code != HUNKRAVY_OK ? code
-                               : hunkravy_decrypt_in_place(variant, copy(m, c, mlen), mlen, ad, adlen, npub, npublen, k,
-                                     klen, c + mlen, maclen);
+    return code != HUNKRAVY_OK
+        ? code
+        : hunkravy_decrypt(variant, m, c, mlen, ad, adlen, npub, npublen, k, klen, c + mlen, maclen);
 }
 
 int hunkravy_verify(uint32_t variant, const uint8_t *c, size_t clen, const uint8_t *ad, size_t adlen,
@@ -108,6 +124,9 @@ int hunkravy_state_encrypt_in_place(hunkravy_state *st, uint8_t *mc, size_t mcle
 
 int hunkravy_state_encrypt(hunkravy_state *st, uint8_t *c, const uint8_t *m, size_t mlen)
 {
+    if (are_apart(c, m, mlen)) {
+        return hunkravy_proved_state_encrypt(st->opaque, IN(m, mlen), OUT(c, mlen));
+    }
     int code = hunkravy_proved_state_may_encrypt(st->opaque, mlen);
     return code != HUNKRAVY_OK ? code : hunkravy_state_encrypt_in_place(st, copy(c, m, mlen), mlen);
 }
@@ -129,6 +148,9 @@ int hunkravy_state_decrypt_in_place_unverified(hunkravy_state *st, uint8_t *mc, 
 
 int hunkravy_state_decrypt_unverified(hunkravy_state *st, uint8_t *m, const uint8_t *c, size_t clen)
 {
+    if (are_apart(m, c, clen)) {
+        return hunkravy_proved_state_decrypt_unverified(st->opaque, IN(c, clen), OUT(m, clen));
+    }
     int code = hunkravy_proved_state_may_decrypt(st->opaque, clen);
     return code != HUNKRAVY_OK ? code : hunkravy_state_decrypt_in_place_unverified(st, copy(m, c, clen), clen);
 }

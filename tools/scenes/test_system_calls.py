@@ -1,5 +1,5 @@
 """The calls of the system that a run makes, each failing or killed in turn, and what happens between two of them, by the
-library of calls.c."""
+library of system_calls.c."""
 
 import os
 import pathlib
@@ -119,7 +119,7 @@ class Calls(Scene):
     def test_a_pipe_that_becomes_a_file(self):
         os.mkfifo("out")
         exchanges = "BEFORE=open RUNS='echo >> opened; [ $(wc -l < opened) != 3 ] || { rm out; cp key out; }'"
-        self.with_calls(3, exchanges, "seal --force -k key small out", "^hunkravy: out exists: use --force to replace it$")
+        self.with_calls(3, exchanges, "seal --force -k key small out", "^hunkravy: out appeared or was exchanged during the run")
         self.is_same("out", "key")
 
     # Just before a name is removed its folder is renamed.

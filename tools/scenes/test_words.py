@@ -44,8 +44,9 @@ class Words(Scene):
     # Commands, options where a dash is typed, files elsewhere, but none for a number.
     def test_completions_of_bash(self):
         script = 'compopt() { echo numbers; }; source "$0"; COMP_WORDS=(hunkravy "$@") COMP_CWORD=$#; _hunkravy; echo "${COMPREPLY[*]}"'
-        for words, found in (["se"], "seal\n"), (["open", "--f"], "--from --force\n"), (["open", "-k", ""], "\n"), \
-                (["open", "--from", ""], "numbers\n\n"), (["seal", "-k", "key", "sm"], "\n"):
+        for words, found in (["se"], "seal\n"), (["--"], "--help --version\n"), (["help", "re"], "rekey\n"), (["keygen", ""], "\n"), \
+                (["open", "--f"], "--from --force\n"), (["open", "-k", ""], "\n"), (["open", "--from", ""], "numbers\n\n"), \
+                (["seal", "-k", "key", "sm"], "\n"):
             self.tool(0, ["bash", "-c", script, MANUAL / "bash", *words])
             self.assertEqual(self.said, found, words)
 
@@ -56,7 +57,7 @@ class Words(Scene):
         self.shell(2, r"$TOOL seal -k key $'small\377' out", "an argument, or")
         self.shell(2, r"exec -a $'\377' $TOOL info sealed", "or the program's own name, is not UTF-8")
         os.mkdir("$(touch pasted)")
-        hint = r"^hunkravy: \$\(touch pasted\) is a folder: to seal it, run tar -c FOLDER \|"
+        hint = r"^hunkravy: \$\(touch pasted\) is a folder: give a file, or seal a folder with tar -c FOLDER \|"
         self.tool(3, [TOOL, "seal", "-k", "key", "$(touch pasted)", "out"], hint)
         # The tests of the packages have the forms of a key.
         for wrong in "small", "/dev/null", "/dev/zero":
@@ -102,7 +103,8 @@ class Words(Scene):
             self.tool(3, [TOOL, "seal", "-k", "key", "small", name], r"\A[^\n]*\n\Z", "[\033\u009b\r\t]")
             self.tool(0, [TOOL, "seal", "--force", "-k", "key", "small", name])
         self.nothing_left()
-        self.tool(2, "check -k key sealed one\u202etoo\nmany", [r"one\\u\{202e\}too$", "^many"])
+        for words in "check -k key sealed {}", "open -k key --from {} sealed -", "{}":
+            self.tool(2, words.format("one\u202etoo\nmany"), r"one\\u\{202e\}too\\nmany", "^many")
         name = "no\033[2J\u009b2Jsuch"
         self.tool(3, f"check -k key {name}", r"no\\u\{1b\}\[2J\\u\{9b\}2Jsuch cannot be read", "[\033\u009b]")
         self.tool(3, f"check -k {name} small", lacks="[\033\u009b]")

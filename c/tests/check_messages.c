@@ -1,5 +1,5 @@
 /*
- * The calls at once, of all six variants: the stored lines by each form of a call, wrong lengths, and the texts and
+ * The functions for a whole message, of all six variants: the stored lines in each form, wrong lengths, and the texts and
  * constants of the headers. Its parameter is the folder of the stored lines. If the library has one build alone, LEVEL
  * is the level of that. It ends with status 0 only if every result is right.
  */
@@ -58,9 +58,13 @@ static void check_seal(const struct line *line)
     /* From and to the same pointer. */
     HOLDS(hunkravy_decrypt_combined(given.variant, both, both, length + maclen, CONTEXT(given), maclen) == HUNKRAVY_OK);
     HOLDS(are_equal(both, line->text.at, length));
-    memset(mac, 0, maclen);
-    HOLDS(hunkravy_encrypt(given.variant, both, both, length, CONTEXT(given), mac, maclen) == HUNKRAVY_OK);
-    HOLDS(are_equal(both, expected, length) && are_equal(mac, tag, maclen));
+    for (size_t i = 0; i < COUNT(PLACES); i++) {
+        uint8_t *from = both + PLACES[i].from, *to = both + PLACES[i].to;
+        memcpy(from, line->text.at, length);
+        memset(mac, 0, maclen);
+        HOLDS(hunkravy_encrypt(given.variant, to, from, length, CONTEXT(given), mac, maclen) == HUNKRAVY_OK);
+        HOLDS(are_equal(to, expected, length) && are_equal(mac, tag, maclen));
+    }
     free(c);
     free(mac);
     free(both);
@@ -88,8 +92,12 @@ static void check_open(const struct line *line)
     HOLDS(are_equal(other, expected, length) && are_equal(both, line->text.at, length));
     HOLDS(hunkravy_decrypt_in_place(given.variant, given.text, length, CONTEXT(given), mac, maclen) == code);
     HOLDS(are_equal(given.text, expected, length));
-    HOLDS(hunkravy_decrypt(given.variant, both, both, length, CONTEXT(given), mac, maclen) == code);
-    HOLDS(are_equal(both, expected, length) && are_equal(both + length, mac, maclen));
+    for (size_t i = 0; i < COUNT(PLACES); i++) {
+        uint8_t *from = both + PLACES[i].from, *to = both + PLACES[i].to;
+        memcpy(from, line->text.at, length);
+        HOLDS(hunkravy_decrypt(given.variant, to, from, length, CONTEXT(given), mac, maclen) == code);
+        HOLDS(are_equal(to, expected, length));
+    }
     free(m);
     free(other);
     free(both);

@@ -74,7 +74,8 @@ class Contents(Scene):
         for words in "open --force -k key - out", "rekey --force -k key -n key - out":
             self.assertEqual(self.sends(words, os.pipe2(os.O_DIRECT), sealed, 4000), (0, b""))
         self.opens("out", text)
-        self.assertEqual(self.sends("check -q -k key", os.pipe2(os.O_DIRECT), sealed, 4000), (0, b""))
+        for words in "check -q -k key", "info -q":
+            self.assertEqual(self.sends(words, os.pipe2(os.O_DIRECT), sealed, 4000), (0, b""))
 
     # Messages in sockets can be longer than any buffer. Streams have none.
     def test_sockets(self):

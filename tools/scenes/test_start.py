@@ -52,7 +52,9 @@ class Start(Scene):
         changes = ["chroot"] if os.geteuid() == 0 else ["unshare", "--map-root-user", "chroot"]
         if subprocess.run([*changes, "/", "true"], check=False, stderr=subprocess.DEVNULL).returncode:
             self.left_out("an empty root, since there is no right to chroot")
-        self.tool(0, [*changes, "root", "/hunkravy", "--version"], built_for(level_here()))
+        os.symlink("hunkravy", "root/link")
+        for name in "/hunkravy", "./link":
+            self.tool(0, [*changes, "root", name, "--version"], built_for(level_here()))
         for words in "keygen /key", "seal -k /key /hunkravy /sealed", "open -k /key /sealed /opened", "seal -k /key - /none":
             self.tool(0, [*changes, "root", "/hunkravy", *words.split()], lacks=".")
         self.is_same("root/opened", TOOL)

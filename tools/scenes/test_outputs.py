@@ -65,7 +65,7 @@ REJECTED = {
         "seal --force -k key small /dev/stderr 2>> log; status=$?; tail -n 1 log >&2; sed -i \\$d log; exit $status",
     ),
     # Descriptors that the program opens itself.
-    "became a device or a pipe": ("seal -k key /dev/null /dev/fd/3 3>&-", "seal -k key /dev/null /dev/stdout >&-"),
+    "appeared or was exchanged": ("seal -k key /dev/null /dev/fd/3 3>&-", "seal -k key /dev/null /dev/stdout >&-"),
     "/dev/stdout": ("open --force -k key --from 5 sealed /dev/stdout >&-",),
 }
 # The key comes through a pipe, or OUT is a copy of its file: only the contents of OUT show that it is the key.

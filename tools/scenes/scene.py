@@ -1,6 +1,6 @@
 """What the scenes of this folder share: a folder with keys and sealed files, and runs of the program in it.
 
-TOOL is the program, VERSION its version, and CALLS_LIBRARY the library of calls.c,
+TOOL is the program, VERSION its version, and CALLS_LIBRARY the library of system_calls.c,
 as tools/rules.mk sets them.
 """
 

@@ -6,14 +6,17 @@ import re
 from scene import ROOT, Scene, read, write
 
 MISSING = r"No such file or directory \(os error 2\)"
-# What the shell runs, its status, and all that is printed, as an expression. CALLS is the library of calls.c with settings.
+# What the shell runs, its status, and all that is printed, as an expression. CALLS is the library of system_calls.c with settings.
 MESSAGES = (
     # Sealed files.
     ("$TOOL check -k key small", 1, r"hunkravy: small is not a sealed file: its bytes 24 to 27 are not AGR2"),
     ("$TOOL check -k other sealed", 1, r"hunkravy: sealed: the key is probably wrong, or the file is damaged at its start"),
     ("$TOOL check -k key flipped", 1,
      r"hunkravy: flipped is damaged: record 1 does not open \(bytes 65536 to 131071 of the contents, if the length of the record is "
-     r"right; for the rest, try --from 131072\); the first 65536 bytes of the contents are verified"),
+     r"right; if anything follows, try --from 131072\); the first 65536 bytes of the contents are verified"),
+    ("$TOOL check -k key emptied", 1,
+     r"hunkravy: emptied is damaged: record 1 does not open \(no byte of the contents, if the length of the record is right; "
+     r"if anything follows, try --from 65536\); the first 65536 bytes of the contents are verified"),
     ("$TOOL check -k key flagged", 1,
      r"hunkravy: flagged is damaged: the head of a record is invalid; the first 65536 bytes of the contents are verified"),
     ("$TOOL check -k key cut", 1, r"hunkravy: cut is truncated; the first 196608 bytes of the contents are verified"),
@@ -35,7 +38,8 @@ MESSAGES = (
     ("chmod 604 other; $TOOL seal -k - small new < other", 0,
      r"hunkravy: the mode of standard input lets others read or change the key: run chmod 600"),
     ("$TOOL check -k key nowhere", 3, rf"hunkravy: nowhere cannot be read: {MISSING}"),
-    ("$TOOL seal -k key . out", 3, r"hunkravy: \. is a folder: to seal it, run tar -c FOLDER \| hunkravy seal -k KEY - OUT"),
+    ("$TOOL check -k key ''", 3, rf"hunkravy: '' cannot be read: {MISSING}"),
+    ("$TOOL seal -k key . out", 3, r"hunkravy: \. is a folder: give a file, or seal a folder with tar -c FOLDER \| hunkravy seal -k KEY - OUT"),
     ("$TOOL open -k key --from 1 - out", 2, r"hunkravy: --from and --length need a file as IN"),
     ("$TOOL seal -k - - out", 2,
      r"hunkravy: standard input can be used only once: give files for IN and for any second key"),
@@ -53,7 +57,7 @@ MESSAGES = (
      r"hunkravy: /dev/fd/8 is a link to a file that has no path here: give another path"),
     ("$TOOL seal --force -k key small /", 3, r"hunkravy: / is a folder or a block device: give a file"),
     ("$TOOL seal -k key /dev/null /dev/fd/3 3>&-", 3,
-     r"hunkravy: /dev/fd/3 became a device or a pipe during the run: give another OUT"),
+     r"hunkravy: /dev/fd/3 appeared or was exchanged during the run: give another OUT"),
     ("$TOOL seal --force -k key small small", 3,
      r"hunkravy: small is also the input: input and output must be different files"),
     ("mkfifo pipe; $TOOL seal --force -k key small pipe <> pipe", 3,
@@ -94,6 +98,7 @@ class Messages(Scene):
         sealed = read("sealed")
         write("flipped", sealed[:70_000] + bytes([sealed[70_000] ^ 1]) + sealed[70_001:])
         write("flagged", sealed[:65_601] + b"\2" + sealed[65_602:])
+        write("emptied", sealed[:65_601] + bytes(5 + 32) + sealed[65_601:])
         write("cut", sealed[:-66])
         write("short", sealed[:200_100])
         write("longer", sealed + b"x")
