@@ -105,8 +105,8 @@ with tempfile.TemporaryDirectory() as name:
         ({"REFUSED": "3"}, ", 3 failed, 0 left out"),
         ({"STATUS": "1"}, ", 1 failed, 0 left out"),
         ({"LEAVES": "check-time", "STRICT": "1"}, ", 0 failed, 1 left out"),
-        ({"HANGS": "check-dist", "LIMIT": "1"}, ", 1 failed, 0 left out"),
-        ({"PROVING": "60", "LIMIT": "1"}, ", 1 failed, 0 left out"),
+        ({"HANGS": "check-dist", "LIMIT": "5"}, ", 1 failed, 0 left out"),
+        ({"PROVING": "60", "LIMIT": "5"}, ", 1 failed, 0 left out"),
     ):
         begun = time.monotonic()
         status, last, _ = run(folder, **variables)
