@@ -1,7 +1,7 @@
 """docs/ARCHITECTURE.md lists each file with a definition that a public contract reaches, and no other, each after those that
 it uses, with its number of lines; README.md has their sums. In these files a public contract reaches each definition: what
 only bodies and proofs use is in `Private.antt`. No definition takes a number from the code: none imports a constant. A
-number of the formats stands in the definition that names it, and nowhere else."""
+number of the formats stands in the definition that names it, and nowhere else. No two files define one name."""
 
 import pathlib
 import re
@@ -129,12 +129,22 @@ def definition_faults(cites, wanted):
     yield from (f"{file} imports a constant of the code" for file in FILES.values() if CONSTANTS.search(file.text))
 
 
+def name_faults():
+    """Yields each name that two files define. `lane` is one thing in both families."""
+    places = {}
+    for file in FILES.values():
+        for name in file.definitions.keys() - {"lane"}:
+            places.setdefault(name, []).append(str(file))
+    yield from (f"{' and '.join(files)} define {name}" for name, files in places.items() if len(files) > 1)
+
+
 def faults():
     page, cites = PAGE.read_text("utf-8"), reached()
     wanted = {file for file, _ in cites}
     yield from sum_faults(page)
     yield from list_faults(page, wanted)
     yield from definition_faults(cites, wanted)
+    yield from name_faults()
 
 
 found = [f"{PAGE}: {fault}" for fault in faults()]

@@ -8,7 +8,7 @@ use Rattle.aegis_base.specs.Variant.{Aegis256}
 use Rattle.aegis_base.specs.Message.{ciphertext, tag}
 use Rattle.aegis_base.specs.Context.{Held, Stands}
 use Rattle.aegis.specs.Calls.{sealing_of}
-use Rattle.aegis.specs.RecordStream.{associated_data, nonce, sealed}
+use Rattle.aegis.specs.RecordStream.{record_associated_data, nonce, sealed}
 use Rattle.aegis.specs.declared.record.position.RecordPosition.{RecordPosition}
 use Rattle.aegis.specs.declared.record.record_cipher.RecordCipher.{RecordCipher}
 use Rattle.aegis.proofs.Sealed.{drop-past}
@@ -18,7 +18,7 @@ abbrev pub nonce_of : RecordCipher → RecordPosition → List ℕ
 nonce_of cipher position = nonce cipher.prefix.now position.number
 
 abbrev pub data_of : RecordCipher → RecordPosition → ℕ → List ℕ
-data_of cipher position flag = associated_data position flag cipher.context.now
+data_of cipher position flag = record_associated_data position flag cipher.context.now
 
 -- an encryptor stands for this beginning of a record's message
 abbrev pub StandsFor : RecordCipher → RecordPosition → ℕ → Held → List ℕ → Type 0

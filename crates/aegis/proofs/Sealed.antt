@@ -7,7 +7,7 @@ use Rattle.aegis_base.specs.Message.{Opens, ciphertext, lane_before, seal, tag}
 use Rattle.aegis_base.proofs.Bijection.{ciphertext-injective, length-ciphertext}
 use Rattle.aegis_base.proofs.Lengths.{length_tag}
 use Rattle.aegis.specs.declared.record.position.RecordPosition.{RecordPosition}
-use Rattle.aegis.specs.RecordStream.{associated_data, nonce, sealed}
+use Rattle.aegis.specs.RecordStream.{record_associated_data, nonce, sealed}
 use Rattle.aegis.specs.Private.{IsSealing}
 
 pub drop-past : (k : ℕ) (xs : List ℕ) → length xs ≤ k → drop k xs ≡ []
@@ -29,13 +29,13 @@ tag_long key nonce ad m = length_tag Aegis256 32 key nonce ad m (inl refl) (inr 
 
 -- a ciphertext and the tag after it are what the message is sealed to
 pub joined : (key prefix context : List ℕ) (at : RecordPosition) (flag : ℕ) (m c t : List ℕ)
-    → (c, t) ≡ seal Aegis256 32 key (nonce prefix at.number) (associated_data at flag context) m → c ++ t ≡ sealed key prefix context at flag m
+    → (c, t) ≡ seal Aegis256 32 key (nonce prefix at.number) (record_associated_data at flag context) m → c ++ t ≡ sealed key prefix context at flag m
 unfolding sealed
 joined key prefix context at flag m c t is = ap (λ (p : List ℕ × List ℕ). p.0 ++ p.1) is
 
 -- bytes whose beginning opens with the tag after it are what the message is sealed to
 pub opened : (key prefix context : List ℕ) (at : RecordPosition) (flag : ℕ) (m bytes c t : List ℕ)
-    → Opens Aegis256 32 key (nonce prefix at.number) (associated_data at flag context) c t m
+    → Opens Aegis256 32 key (nonce prefix at.number) (record_associated_data at flag context) c t m
     → c ≡ take (length bytes - 32) bytes → t ≡ drop (length bytes - 32) bytes → sealed key prefix context at flag m ≡ bytes
 unfolding sealed
 opened key prefix context at flag m bytes c t opens ce te = grind (arith, opens, take-append-drop)
@@ -43,7 +43,7 @@ opened key prefix context at flag m bytes c t opens ce te = grind (arith, opens,
 -- and the other way round
 pub opens : (key prefix context : List ℕ) (at : RecordPosition) (flag : ℕ) (m bytes c t : List ℕ) → sealed key prefix context at flag m ≡ bytes
     → c ≡ take (length bytes - 32) bytes → t ≡ drop (length bytes - 32) bytes
-    → Opens Aegis256 32 key (nonce prefix at.number) (associated_data at flag context) c t m
+    → Opens Aegis256 32 key (nonce prefix at.number) (record_associated_data at flag context) c t m
 unfolding sealed
 opens key prefix context at flag m bytes c t e ce te = grind (arith, length-append, tag_long, take_at, drop_at)
 
@@ -54,7 +54,7 @@ sealed-is key prefix context = record { long = long; one = one }
     long : (at : RecordPosition) (flag : ℕ) (m : List ℕ) → length (sealed key prefix context at flag m) ≡ length m + 32
     long at flag m =
         let n = nonce prefix at.number in
-        let ad = associated_data at flag context in
+        let ad = record_associated_data at flag context in
         omega (
           arith,
           length-append (ciphertext Aegis256 key n ad m) (tag Aegis256 32 key n ad m),
@@ -65,7 +65,7 @@ sealed-is key prefix context = record { long = long; one = one }
     one : (at : RecordPosition) (flag : ℕ) (m n : List ℕ) → sealed key prefix context at flag m ≡ sealed key prefix context at flag n → m ≡ n
     one at flag m n e =
         let nc = nonce prefix at.number in
-        let ad = associated_data at flag context in
+        let ad = record_associated_data at flag context in
         let same : length m ≡ length n = let both = ap length e in omega (arith, long at flag m, long at flag n) in
         let cm = ciphertext Aegis256 key nc ad m in
         let cn = ciphertext Aegis256 key nc ad n in

@@ -10,7 +10,7 @@ use Rattle.aegis.specs.declared.record.error.RecordError.{RecordError}
 use Rattle.aegis.specs.declared.record.error.RecordError.TheVariants as errors
 use Rattle.aegis.specs.declared.record.position.RecordPosition.{RecordPosition}
 use Rattle.aegis.specs.declared.record.version.Version.{Version}
-use Rattle.aegis.specs.Calls.{AcceptsNext, AreRecordsOfSomeVersion, Begun, IsFirstFault, IsRecord, IsRecordFault, OpensNext, Progress, after, last_flag, progress_at, record_of, sealing_in, start_of}
+use Rattle.aegis.specs.Calls.{AcceptsNext, AreRecordsOfSomeVersion, Begun, IsFirstFault, IsRecord, IsRecordFault, OpensNext, Progress, progress_after, last_flag, progress_at, record_of, sealing_in, start_of}
 use Rattle.aegis.specs.RecordStream.{AreRecords, AreWithin, AtEnd, AtHeader, AtRecord, HasFault, IsFault, IsFaultAt, IsFaultOf, IsOneRecordStream, Parts, Sealing, beginning, first_position, frame, frames, header, limit, parts, position_after, sealed}
 use Rattle.aegis.specs.Private.{IsUnder}
 use Rattle.aegis.proofs.Frames.{Closes, closes, frame_one, frame_sound, beginning_append, beginning_follows, beginning_push, header_size, one_record_stream, position_append, version_after, within_append}
@@ -233,11 +233,11 @@ pub so_far_none : (key prefix context : List ℕ) (v : Version) (rest bytes : Li
 so_far_none key prefix context v rest bytes e =
     record { before = header v; under = refl; begun = begun_none key prefix context v (header v) refl; all = e }
 
-pub under_next : (key prefix context m : List ℕ) (p : Progress) → IsUnder key prefix context p → IsUnder key prefix context (after p false m)
-under_next key prefix context m p is = ap (λ (q : Progress). after q false m) is
+pub under_next : (key prefix context m : List ℕ) (p : Progress) → IsUnder key prefix context p → IsUnder key prefix context (progress_after p false m)
+under_next key prefix context m p is = ap (λ (q : Progress). progress_after q false m) is
 
 pub so_far_next : (key prefix context : List ℕ) (p : Progress) (ms : List (List ℕ)) (m rest more bytes : List ℕ) → SoFar key prefix context p ms rest bytes
-    → length m ≤ limit p.position.version → rest ≡ record_of p 0 m ++ more → SoFar key prefix context (after p false m) (ms ++ m ∷ []) more bytes
+    → length m ≤ limit p.position.version → rest ≡ record_of p 0 m ++ more → SoFar key prefix context (progress_after p false m) (ms ++ m ∷ []) more bytes
 so_far_next key prefix context p ms m rest more bytes s low e = record {
   before = s.before ++ record_of p 0 m;
   under = under_next key prefix context m p s.under;

@@ -124,8 +124,8 @@ abbrev pub progress_at : List ℕ → List ℕ → List ℕ → RecordPosition �
 progress_at key prefix context position = record { key = key; prefix = prefix; context = context; position = position; ended = false }
 
 -- the progress after the next record, if it has this message: the key, prefix and context are the same
-abbrev pub after : Progress → Bool → List ℕ → Progress
-after p is_last m = record { key = p.key; prefix = p.prefix; context = p.context; position = next_position p.position m; ended = is_last }
+abbrev pub progress_after : Progress → Bool → List ℕ → Progress
+progress_after p is_last m = record { key = p.key; prefix = p.prefix; context = p.context; position = next_position p.position m; ended = is_last }
 
 -- a record's flag: 1 for the last one
 abbrev pub last_flag : Bool → ℕ
@@ -148,7 +148,7 @@ pub record OpensNext (old new : Progress) (bytes : List ℕ) (is_last : Bool) (m
   pub whole : OnTrue is_last ((ms : List (List ℕ)) (before : List ℕ) → Begun old ms before
       → AreRecordsOfSomeVersion old.key old.prefix old.context (ms ++ m ∷ []) (before ++ record_of old 1 m))
   -- the progress is the one after the record
-  pub progress : new ≡ after old is_last m
+  pub progress : new ≡ progress_after old is_last m
   pub ended : new.ended ≡ is_last
   pub taken : start_of new + length rest ≡ start_of old + length bytes
   pub within : length m ≤ limit old.position.version

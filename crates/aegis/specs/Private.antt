@@ -7,9 +7,9 @@ use Rattle.aegis.specs.RecordStream.{Parts, Sealing, frame, sealed}
 use Rattle.aegis.specs.Calls.{Progress, progress_at}
 
 -- the result is these parts of a record, or their fault
-abbrev pub AreParts : Result Frame RecordError → Result Parts RecordError → Type 0
-AreParts (Ok frame) found = found ≡ Ok (frame.flag, frame.sealed.now, frame.rest.now)
-AreParts (Err e) found = found ≡ Err e
+abbrev pub HasParts : Result Frame RecordError → Result Parts RecordError → Type 0
+HasParts (Ok frame) found = found ≡ Ok (frame.flag, frame.sealed.now, frame.rest.now)
+HasParts (Err e) found = found ≡ Err e
 
 -- the progress is one of a stream under this key, prefix and context, of which the last record was not opened
 abbrev pub IsUnder : List ℕ → List ℕ → List ℕ → Progress → Type 0

@@ -162,15 +162,15 @@ before_bytes First before = []
 before_bytes Second before = to_le_bytes w64 before
 
 -- the associated data of a record: the header, its number, the bytes before it, its flag, and the stream's context
-abbrev pub associated_data : RecordPosition → ℕ → List ℕ → List ℕ
-associated_data position flag context =
+abbrev pub record_associated_data : RecordPosition → ℕ → List ℕ → List ℕ
+record_associated_data position flag context =
     header position.version ++ to_le_bytes w64 position.number ++ before_bytes position.version position.before ++ flag ∷ context
 
 -- a record's ciphertext and tag
 unfoldable pub sealed : List ℕ → List ℕ → List ℕ → Sealing
 sealed key prefix context position flag m =
-    ciphertext Aegis256 key (nonce prefix position.number) (associated_data position flag context) m
-    ++ tag Aegis256 long_tag_bytes key (nonce prefix position.number) (associated_data position flag context) m
+    ciphertext Aegis256 key (nonce prefix position.number) (record_associated_data position flag context) m
+    ++ tag Aegis256 long_tag_bytes key (nonce prefix position.number) (record_associated_data position flag context) m
 
 -- the bytes are the stream of the messages: there is at least one, and none is longer than the version allows
 abbrev pub AreRecords : Version → List ℕ → List ℕ → List ℕ → List (List ℕ) → List ℕ → Type 0

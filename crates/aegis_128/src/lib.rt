@@ -5,7 +5,7 @@
 #![tactic(auto)]
 
 ghost use Rattle.std.specs.Prelude.{◌≡◌, ℕ, ◌+◌, ◌*◌, ◌/◌, ◌^◌, ◌<◌, List, [], ◌∷◌};
-ghost use Rattle.aegis_aes.specs.Lanes.{context};
+ghost use Rattle.aegis_aes.specs.Lanes.{context_block};
 ghost use Rattle.aegis_base.specs.Variant.{Family128};
 ghost use Rattle.aegis_base.specs.Lane.{add_context, first_blocks, high_tag, keystream_blocks, last_block, low_tag, block_in, short_tag, init, init_turn, update};
 
@@ -62,7 +62,7 @@ impl<P: Pair> State128<P> {
     fn add_contexts(&mut self)
         ensures lanes { (j : ℕ) → j < P.Row.LANES
             → lane P.block self.new j
-            ≡ add_context Family128 (context j P.Row.LANES) (lane P.block self.old j) }
+            ≡ add_context Family128 (context_block j P.Row.LANES) (lane P.block self.old j) }
         ensures updates { self.new.updates ≡ self.old.updates }
     {
         let contexts = P::Row::contexts();

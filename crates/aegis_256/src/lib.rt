@@ -5,7 +5,7 @@
 #![tactic(auto)]
 
 ghost use Rattle.std.specs.Prelude.{◌≡◌, ℕ, ◌+◌, ◌-◌, ◌*◌, ◌^◌, ◌<◌, List, [], ◌∷◌, length};
-ghost use Rattle.aegis_aes.specs.Lanes.{context};
+ghost use Rattle.aegis_aes.specs.Lanes.{context_block};
 ghost use Rattle.aegis_base.specs.Variant.{Family256};
 ghost use Rattle.aegis_base.specs.Lane.{add_context, first_blocks, high_half, high_tag, keystream_blocks, last_block, low_half, low_tag, block_in, short_tag, init, init_turn, update};
 
@@ -77,7 +77,7 @@ impl<P: Pair> State256<P> {
     fn add_contexts(&mut self)
         ensures lanes { (j : ℕ) → j < P.Row.LANES
             → lane P.block self.new j
-            ≡ add_context Family256 (context j P.Row.LANES) (lane P.block self.old j) }
+            ≡ add_context Family256 (context_block j P.Row.LANES) (lane P.block self.old j) }
         ensures updates { self.new.updates ≡ self.old.updates }
     {
         let contexts = P::Row::contexts();
@@ -92,7 +92,7 @@ impl<P: Pair> State256<P> {
         ensures lanes { (j : ℕ) → j < P.Row.LANES
             → lane P.block self.new j
             ≡ update Family256
-            (add_context Family256 (context j P.Row.LANES) (lane P.block self.old j))
+            (add_context Family256 (context_block j P.Row.LANES) (lane P.block self.old j))
             (block ∷ []) }
         ensures updates { self.new.updates ≡ self.old.updates + 1 }
     {

@@ -7,7 +7,7 @@ use Rattle.std.proofs.lemmas.Nat.{xor_mod, xor_lt, and_le_r}
 use Rattle.std.proofs.lemmas.Simd.{get_or-chunk, swz_l, SwzOk, SwzOk-from_Each1, get_or-swz_l, Each1-get_or, Each1-weaker, Each1-zip2, Each1-all, Each2-splat, Each2-of, map-map, splat_is_map, zip2_of_maps}
 use Rattle.std.specs.Simd.Lanes.{Each1, chunk, zip2}
 use mir.Val.{zeroes}
-use Rattle.aegis_aes.specs.Permutes.{ArePlaces, IsPlace, IsWidth, entry, entry_beside}
+use Rattle.aegis_aes.specs.Permutes.{ArePlaces, IsPlace, IsWidth, table_entry, entry_beside}
 use Rattle.aegis_aes.specs.declared.permutes.TheConstants.{IN_HIGH, IN_LOW, INVERSE, OUT_ONE, OUT_TWO, SCALED}
 use Rattle.aegis_aes.specs.Field.{inverse, mul, mul_bits}
 use Rattle.aegis_aes.specs.Round.{affine, substitute}
@@ -50,7 +50,7 @@ moved size n from at same long-from long-at i lt =
     ∙ ap (λ (k : ℕ). cond (zeroes 16 w8 (get_or at i 0)) 0 (get_or from (16 * (k / 16) + get_or at i 0) 0)) (omega arith)))
 
 -- ---- one look-up
-entry-place : (t : List ℕ) → ArePlaces t → (j : ℕ) → IsPlace (entry t j)
+entry-place : (t : List ℕ) → ArePlaces t → (j : ℕ) → IsPlace (table_entry t j)
 entry-place t p j = either (leb 128 j) (get_or t j 0) (at-place t p.each j)
   where
     either : (b : Bool) (v : ℕ) → IsPlace v → IsPlace (cond b 0 v)
@@ -62,10 +62,10 @@ entry-place t p j = either (leb 128 j) (get_or t j 0) (at-place t p.each j)
     at-place (x ∷ xs) h zero = h.0
     at-place (x ∷ xs) h (suc n) = at-place xs h.1 n
 
-pub entry_places : (t at : List ℕ) → ArePlaces t → ArePlaces (map (entry t) at)
+pub entry_places : (t at : List ℕ) → ArePlaces t → ArePlaces (map (table_entry t) at)
 entry_places t at p = record { each = all at }
   where
-    all : (js : List ℕ) → Each1 IsPlace (map (entry t) js)
+    all : (js : List ℕ) → Each1 IsPlace (map (table_entry t) js)
     all [] = tt
     all (j ∷ js) = (entry-place t p j, all js)
 
@@ -79,15 +79,15 @@ two_blocks n width not-one = ⊎_elim (λ e. absurd (not-one e)) (λ e. e) width
 pub entries-at : (table from at out : List ℕ) (n : ℕ) → length from ≡ n → length at ≡ n → length out ≡ n
     → ((i : ℕ) → i < n → get_or from i 0 ≡ get_or table (i % 16) 0) → ArePlaces at → IsWidth n
     → ((i : ℕ) → i < n → get_or out i 0 ≡ entry_beside from i (get_or at i 0))
-    → out ≡ map (entry table) at
+    → out ≡ map (table_entry table) at
 entries-at table from at out n long-from long-at long-out same p width each =
     let whole : n % 16 ≡ 0 = blocks n width in
-    same_number_lists _ _ (long-out ∙ sym (length-map at (entry table) ∙ long-at)) (λ i lt.
+    same_number_lists _ _ (long-out ∙ sym (length-map at (table_entry table) ∙ long-at)) (λ i lt.
     let l : i < n = omega (arith, lt, long-out) in
     each i l ∙ beside whole (get_or at i 0) i l (leb 128 (get_or at i 0)) refl (Each1-get_or IsPlace at i 0 (omega (arith, long-at)) p.each)
-    ∙ sym (get_or-map (entry table) at i 0 0 (omega (arith, long-at))))
+    ∙ sym (get_or-map (table_entry table) at i 0 0 (omega (arith, long-at))))
   where
-    beside : n % 16 ≡ 0 → (j i : ℕ) → i < n → (b : Bool) → leb 128 j ≡ b → IsPlace j → entry_beside from i j ≡ entry table j
+    beside : n % 16 ≡ 0 → (j i : ℕ) → i < n → (b : Bool) → leb 128 j ≡ b → IsPlace j → entry_beside from i j ≡ table_entry table j
     beside whole j i l true e h = rw e refl
     beside whole j i l false e h =
         let low : j < 16 = omega (arith, leb-false 128 j e) in
@@ -99,7 +99,7 @@ abbrev pub half : ℕ → ℕ
 half x = bit_and x 15
 
 abbrev pub changed : ℕ → ℕ
-changed x = bit_xor (entry IN_LOW (half x)) (entry IN_HIGH (half (x / 2 ^ 4)))
+changed x = bit_xor (table_entry IN_LOW (half x)) (table_entry IN_HIGH (half (x / 2 ^ 4)))
 
 abbrev pub lower : ℕ → ℕ
 lower x = half (changed x)
@@ -111,13 +111,13 @@ abbrev pub total : ℕ → ℕ
 total x = bit_xor (upper x) (lower x)
 
 abbrev pub first : ℕ → ℕ
-first x = bit_xor (entry INVERSE (bit_xor (entry INVERSE (upper x)) (entry SCALED (lower x)))) (total x)
+first x = bit_xor (table_entry INVERSE (bit_xor (table_entry INVERSE (upper x)) (table_entry SCALED (lower x)))) (total x)
 
 abbrev pub second : ℕ → ℕ
-second x = bit_xor (entry INVERSE (bit_xor (entry INVERSE (total x)) (entry SCALED (lower x)))) (upper x)
+second x = bit_xor (table_entry INVERSE (bit_xor (table_entry INVERSE (total x)) (table_entry SCALED (lower x)))) (upper x)
 
 abbrev pub substituted : ℕ → ℕ
-substituted x = bit_xor (bit_xor (entry OUT_ONE (first x)) (entry OUT_TWO (second x))) 0x63
+substituted x = bit_xor (bit_xor (table_entry OUT_ONE (first x)) (table_entry OUT_TWO (second x))) 0x63
 
 all_bytes : agree_below (λ x. substituted x == substitute x) (λ _. true) 256 ≡ true
 unfolding mul_bits mul inverse affine substitute
@@ -144,8 +144,8 @@ module _ (xs : List ℕ) (n : ℕ) (long : length xs ≡ n) where
   pub shifted : {js : List ℕ} (g : ℕ → ℕ) → js ≡ map g xs → zip2 (λ a b. a / 2 ^ b) js (replicate n 4) ≡ map (λ x. g x / 2 ^ 4) xs
   shifted g e = zip2_of_maps (λ a b. a / 2 ^ b) g (λ _. 4) xs e (splat_is_map xs n 4 long)
 
-  pub found : {js r : List ℕ} (t : List ℕ) (g : ℕ → ℕ) → js ≡ map g xs → r ≡ map (entry t) js → r ≡ map (λ x. entry t (g x)) xs
-  found t g e made = made ∙ ap (map (entry t)) e ∙ map-map (entry t) g xs
+  pub found : {js r : List ℕ} (t : List ℕ) (g : ℕ → ℕ) → js ≡ map g xs → r ≡ map (table_entry t) js → r ≡ map (λ x. table_entry t (g x)) xs
+  found t g e made = made ∙ ap (map (table_entry t)) e ∙ map-map (table_entry t) g xs
 
   pub sum_of : {js ks : List ℕ} (g h : ℕ → ℕ) → js ≡ map g xs → ks ≡ map h xs → zip2 bit_xor js ks ≡ map (λ x. bit_xor (g x) (h x)) xs
   sum_of g h e f = zip2_of_maps bit_xor g h xs e f

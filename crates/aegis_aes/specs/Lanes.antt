@@ -7,8 +7,8 @@ abbrev pub IsLaneCount : ℕ → Type 0
 IsLaneCount d = (d ≡ 1) ⊎ ((d ≡ 2) ⊎ (d ≡ 4))
 
 -- the context block of lane j of d (AEGIS specification, Init of AEGIS-128X and -256X): its number, the last one's, and zeros
-abbrev pub context : ℕ → ℕ → List ℕ
-context j d = j ∷ (d - 1) ∷ replicate 14 0
+abbrev pub context_block : ℕ → ℕ → List ℕ
+context_block j d = j ∷ (d - 1) ∷ replicate 14 0
 
 -- the xor of f 0 to f (d - 1), the blocks of the first d lanes
 unfoldable pub xor_lanes : (ℕ → List ℕ) → ℕ → List ℕ

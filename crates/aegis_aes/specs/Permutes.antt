@@ -15,8 +15,8 @@ pub record ArePlaces (at : List ℕ) : Type 0 where
   pub each : Each1 IsPlace at
 
 -- entry j of a table of 16, or 0 if j is 128 or more
-abbrev pub entry : List ℕ → ℕ → ℕ
-entry table j = if nat_le 128 j then 0 else slice_index table j
+abbrev pub table_entry : List ℕ → ℕ → ℕ
+table_entry table j = if nat_le 128 j then 0 else slice_index table j
 
 -- the same, with the block that contains byte i as the table
 abbrev pub entry_beside : List ℕ → ℕ → ℕ → ℕ

@@ -17,7 +17,7 @@
 ghost use Rattle.std.specs.Prelude.{◌≡◌, ℕ, ◌+◌, ◌%◌, ◌<◌, ◌≤◌, bit_and, length, map, replicate, slice_index};
 ghost use Rattle.std.specs.Simd.Lanes.{zip2};
 ghost use Rattle.aegis_aes.specs.Block.{block_at};
-ghost use Rattle.aegis_aes.specs.Permutes.{ArePlaces, IsWidth, entry, entry_beside};
+ghost use Rattle.aegis_aes.specs.Permutes.{ArePlaces, IsWidth, table_entry, entry_beside};
 ghost use Rattle.aegis_aes.specs.Round.{sub_bytes, substitute};
 
 use std::simd::prelude::*;
@@ -96,7 +96,7 @@ pub(crate) fn repeated<const N: usize>(bytes: [u8; 16]) -> Simd<u8, N>
 fn look<const N: usize>(table: [u8; 16], at: Simd<u8, N>) -> Simd<u8, N>
     requires width { IsWidth N }
     requires places { ArePlaces at }
-    ensures entries { result ≡ map (entry table) at.entry }
+    ensures entries { result ≡ map (table_entry table) at.entry }
     ensures places { ArePlaces table → ArePlaces result }
 {
     permute(repeated(table), at)

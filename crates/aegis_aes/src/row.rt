@@ -5,7 +5,7 @@ ghost use Rattle.std.specs.Prelude.{◌≡◌, ℕ, ◌+◌, ◌*◌, ◌<◌, �
 ghost use Rattle.aegis_aes.specs.Private.{IsSameBefore, IsSameFrom};
 ghost use Rattle.aegis_aes.specs.Block.{and, block_at, xor};
 ghost use Rattle.aegis_aes.specs.Round.{complete_round, sub_bytes};
-ghost use Rattle.aegis_aes.specs.Lanes.{IsLaneCount, context, xor_lanes};
+ghost use Rattle.aegis_aes.specs.Lanes.{IsLaneCount, context_block, xor_lanes};
 
 use crate::block::AesBlock;
 use crate::permutes::sub_bytes;
@@ -29,7 +29,7 @@ pub trait Row: Copy {
     /// Returns the row of the lanes' context blocks (AEGIS specification, Init of AEGIS-128X and AEGIS-256X): the
     /// number of the lane, the number of the last lane, and 14 zero bytes.
     fn contexts() -> Self
-        ensures { (j : ℕ) → j < LANES → block result j ≡ context j LANES };
+        ensures { (j : ℕ) → j < LANES → block result j ≡ context_block j LANES };
 
     /// Reads a row from `bytes`, beginning at byte `at`: 16 bytes for each lane, lane after lane.
     fn load(bytes: &[u8], at: usize) -> Self
@@ -76,7 +76,7 @@ pub trait Row: Copy {
 // The context block of a lane: its number, the last lane's number, and zeros.
 pub(crate) fn context_block(lane: u8, lanes: u8) -> AesBlock
     requires { 0 < lanes }
-    ensures { result ≡ context lane lanes }
+    ensures { result ≡ context_block lane lanes }
 {
     let mut bytes = [0; 16];
     bytes[0] = lane;

@@ -6,11 +6,11 @@ use Rattle.std.specs.Simd.Lanes.{zip2}
 use Rattle.std.proofs.lemmas.Bool.{and_parts, ltb-true}
 use Rattle.std.proofs.lemmas.Nat.{xor_lt}
 use Rattle.aegis_aes.specs.Block.{and, bytes_at, xor}
-use Rattle.aegis_aes.specs.Lanes.{IsLaneCount, context}
+use Rattle.aegis_aes.specs.Lanes.{IsLaneCount, context_block}
 use Rattle.aegis_aes.proofs.RoundBytes.{IsBytes, round-bytes}
 use Rattle.aegis_base.specs.Variant.{Family, Family128, Family256, Variant, rate}
 use Rattle.aegis_base.specs.Lane.{add_context, c0, c1, first_blocks, high_half, keystream_blocks, low_half, block_in, init, init_turn, init_turns, update, times}
-use Rattle.aegis_base.specs.Message.{after, blocks_at, lane_before, lane_of, share_at, keystream_byte_along}
+use Rattle.aegis_base.specs.Message.{lane_after, blocks_at, lane_before, lane_of, share_at, keystream_byte_along}
 use Rattle.aegis_base.proofs.MessageFacts.{lane_of-within}
 
 -- ---- lists of bytes
@@ -80,7 +80,7 @@ zeros-bytes : IsBytes (0 ∷ 0 ∷ 0 ∷ 0 ∷ 0 ∷ 0 ∷ 0 ∷ 0 ∷ 0 ∷ 0 �
 unfolding are_bytes
 zeros-bytes = tested-bytes _ refl
 
-context-bytes : (j d : ℕ) → IsLaneCount d → j < d → IsBytes (context j d)
+context-bytes : (j d : ℕ) → IsLaneCount d → j < d → IsBytes (context_block j d)
 context-bytes j d (inl e) low = more-bytes (omega arith) (more-bytes (omega arith) zeros-bytes)
 context-bytes j d (inr (inl e)) low = more-bytes (omega arith) (more-bytes (omega arith) zeros-bytes)
 context-bytes j d (inr (inr e)) low = more-bytes (omega arith) (more-bytes (omega arith) zeros-bytes)
@@ -139,8 +139,8 @@ init-rows : (variant : Variant) (key nonce : List ℕ) (j : ℕ) → IsLaneCount
     → AreRows (init variant key nonce j)
 unfolding init
 init-rows variant key nonce j count inside k n =
-    times-rows (init_turns variant.family) (init_turn variant.family key nonce (context j variant.lanes)) (first_blocks variant.family key nonce)
-    (λ s rows. init_turn-rows variant.family key nonce (context j variant.lanes) s k n (context-bytes j variant.lanes count inside) rows)
+    times-rows (init_turns variant.family) (init_turn variant.family key nonce (context_block j variant.lanes)) (first_blocks variant.family key nonce)
+    (λ s rows. init_turn-rows variant.family key nonce (context_block j variant.lanes) s k n (context-bytes j variant.lanes count inside) rows)
     (first_blocks-rows variant.family key nonce k n)
 
 blocks_at-rows : (family : Family) (d j : ℕ) (x : List ℕ) (i : ℕ) → IsBytes x → AreRows (blocks_at family d j x i)
@@ -149,11 +149,11 @@ blocks_at-rows Family128 d j x i is =
 blocks_at-rows Family256 d j x i is = more-rows (bytes_at-bytes x (i + 16 * j) 16 is) no-rows
 
 after-rows : (variant : Variant) (s : List (List ℕ)) (j : ℕ) (x : List ℕ) (n : ℕ) → AreRows s → IsBytes x
-    → AreRows (after variant s j x n)
-unfolding after
+    → AreRows (lane_after variant s j x n)
+unfolding lane_after
 after-rows variant s j x zero rows is = rows
 after-rows variant s j x (suc n) rows is =
-    update-rows variant.family (after variant s j x n) (share_at variant j x (n * rate variant)) (after-rows variant s j x n rows is)
+    update-rows variant.family (lane_after variant s j x n) (share_at variant j x (n * rate variant)) (after-rows variant s j x n rows is)
     (blocks_at-rows variant.family variant.lanes j x (n * rate variant) is)
 
 pub lane_before-rows : (variant : Variant) (key nonce ad : List ℕ) (j : ℕ) → IsLaneCount variant.lanes → j < variant.lanes
@@ -171,9 +171,9 @@ pub keystream_byte_along-below : (variant : Variant) (lanes : ℕ → List (List
 keystream_byte_along-below variant lanes m i count rows is =
     let j : ℕ = lane_of variant.lanes i in
     let n : ℕ = i / rate variant in
-    let keystream : AreRows (keystream_blocks variant.family (after variant (lanes j) j m n)) =
-    keystream_blocks-rows variant.family (after variant (lanes j) j m n)
+    let keystream : AreRows (keystream_blocks variant.family (lane_after variant (lanes j) j m n)) =
+    keystream_blocks-rows variant.family (lane_after variant (lanes j) j m n)
     (after-rows variant (lanes j) j m n (rows j (lane_of-within variant.lanes i count)) is) in
-    let block : IsBytes (block_in (keystream_blocks variant.family (after variant (lanes j) j m n)) (i % rate variant / 16 / variant.lanes)) =
+    let block : IsBytes (block_in (keystream_blocks variant.family (lane_after variant (lanes j) j m n)) (i % rate variant / 16 / variant.lanes)) =
     keystream.at (i % rate variant / 16 / variant.lanes) in
     block.below (i % 16)

@@ -6,7 +6,7 @@ use Rattle.std.proofs.lemmas.Nat.{div-add-mod', div-mul-add, mod-mul-add}
 use Rattle.aegis_aes.specs.Lanes.{IsLaneCount}
 use Rattle.aegis_base.specs.Variant.{Variant, rate}
 use Rattle.aegis_base.specs.Lane.{update}
-use Rattle.aegis_base.specs.Message.{after, after_all, keystream_byte, share_at, keystream_byte_along}
+use Rattle.aegis_base.specs.Message.{lane_after, after_all, keystream_byte, share_at, keystream_byte_along}
 use Rattle.aegis_base.specs.Private.{HasFrom}
 use Rattle.aegis_base.specs.Context.{IsAlong}
 use Rattle.aegis_base.proofs.MessageFacts.{after-more, after-same, block_count-part, block_count-whole, keystream_byte-periodic, keystream_byte-same, rate-positive, share_at-same}
@@ -14,17 +14,17 @@ use Rattle.aegis_base.proofs.MessageFacts.{after-more, after-same, block_count-p
 -- ---- one rate block
 
 module _ (variant : Variant) (lanes here : ℕ → List (List ℕ)) (x : List ℕ) (n : ℕ)
-    (before : (j : ℕ) → j < variant.lanes → here j ≡ after variant (lanes j) j x n) where
+    (before : (j : ℕ) → j < variant.lanes → here j ≡ lane_after variant (lanes j) j x n) where
   -- rate block n of x is taken in from place a of other bytes
   pub block-lane : (bytes : List ℕ) (a j : ℕ) → j < variant.lanes → ((k : ℕ) → k < rate variant → slice_index bytes (a + k) ≡ slice_index x (n * rate variant + k))
-      → update variant.family (here j) (share_at variant j bytes a) ≡ after variant (lanes j) j x (n + 1)
+      → update variant.family (here j) (share_at variant j bytes a) ≡ lane_after variant (lanes j) j x (n + 1)
   block-lane bytes a j inside same =
       rw (after-more, ← before j inside) (ap (update variant.family (here j)) (share_at-same variant j bytes x a (n * rate variant) inside same))
 
   -- the keystream of that rate block is that of the lanes before it
   pub block-byte : (k : ℕ) → IsLaneCount variant.lanes → k < rate variant → keystream_byte_along variant lanes x (n * rate variant + k) ≡ keystream_byte variant here k
   block-byte k count low =
-      let rows = λ (j : ℕ). after variant (lanes j) j x n in
+      let rows = λ (j : ℕ). lane_after variant (lanes j) j x n in
       let block : (n * rate variant + k) / rate variant ≡ n = div-mul-add n (rate variant) k low in
       rw block (keystream_byte-periodic variant rows n k count ∙ sym (keystream_byte-same variant here rows k count before))
 

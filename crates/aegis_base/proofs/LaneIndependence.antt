@@ -7,7 +7,7 @@ use Rattle.aegis_aes.specs.Block.{block_at}
 use Rattle.aegis_aes.specs.Lanes.{IsLaneCount}
 use Rattle.aegis_base.specs.Variant.{Family, Family128, Family256, Variant, rate}
 use Rattle.aegis_base.specs.Laws.{AgreeInLane, AreLanesIndependent}
-use Rattle.aegis_base.specs.Message.{after, after_all, ciphertext_from, lane_of, share, keystream_byte_along}
+use Rattle.aegis_base.specs.Message.{lane_after, after_all, ciphertext_from, lane_of, share, keystream_byte_along}
 use Rattle.aegis_base.proofs.Bijection.{ciphertext-reads, length-ciphertext}
 use Rattle.aegis_base.proofs.LaneFacts.{bytes_at-same}
 use Rattle.aegis_base.proofs.MessageFacts.{lane_of-within, variant_of}
@@ -50,8 +50,8 @@ share-in_lane Family256 d j n x y count inside agree =
     rw first refl
 
 after-in_lane : (variant : Variant) (s : List (List ℕ)) (j : ℕ) (x y : List ℕ) (n : ℕ) → IsLaneCount variant.lanes → j < variant.lanes
-    → AgreeInLane variant.lanes j x y → after variant s j x n ≡ after variant s j y n
-unfolding after
+    → AgreeInLane variant.lanes j x y → lane_after variant s j x n ≡ lane_after variant s j y n
+unfolding lane_after
 after-in_lane variant s j x y zero count inside agree = refl
 after-in_lane variant s j x y (suc n) count inside agree =
     let before = after-in_lane variant s j x y n count inside agree in
@@ -70,9 +70,9 @@ keystream_byte_along-in_lane : (variant : Variant) (f g : ℕ → List (List ℕ
 keystream_byte_along-in_lane variant f g x y i j count here same agree =
     let n = i / rate variant in
     let inside : j < variant.lanes = subst (λ (q : ℕ). q < variant.lanes) here (lane_of-within variant.lanes i count) in
-    let lane : after variant (f j) j x n ≡ after variant (g j) j y n =
+    let lane : lane_after variant (f j) j x n ≡ lane_after variant (g j) j y n =
     after-in_lane variant (f j) j x y n count inside agree
-    ∙ ap (λ (s : List (List ℕ)). after variant s j y n) same in
+    ∙ ap (λ (s : List (List ℕ)). lane_after variant s j y n) same in
     rw (here, lane) refl
 
 ciphertext_from-in_lane : (variant : Variant) (f g : ℕ → List (List ℕ)) (m n : List ℕ) (j : ℕ) → IsLaneCount variant.lanes

@@ -8,7 +8,7 @@ use Rattle.aegis_aes.specs.Lanes.{IsLaneCount}
 use Rattle.aegis_aes.specs.Round.{complete_byte, complete_round, round, sub_bytes}
 use Rattle.aegis_base.specs.Variant.{Family, Family128, Family256, Variant}
 use Rattle.aegis_base.specs.Lane.{IsTagLength, add_context, bit_lengths, finalize, high_tag, lane_tag, last_block, last_input, low_tag, block_in, short_tag, init, init_turn, init_turns, update, times}
-use Rattle.aegis_base.specs.Message.{after, lane_end, tag}
+use Rattle.aegis_base.specs.Message.{lane_after, lane_end, tag}
 use Rattle.aegis_base.proofs.LaneFacts.{length-xor, length-xor_lanes-count}
 
 pub length-round : (b k : List ℕ) → length (round b k) ≡ 16
@@ -52,8 +52,8 @@ unfolding init
 init-updated variant key nonce j = grind (arith, times-updated, init_turns-positive, init_turn-updated)
 
 pub after-updated : (variant : Variant) (s : List (List ℕ)) (j : ℕ) (x : List ℕ) (n : ℕ) → IsUpdated variant.family s
-    → IsUpdated variant.family (after variant s j x n)
-unfolding after
+    → IsUpdated variant.family (lane_after variant s j x n)
+unfolding lane_after
 after-updated variant s j x zero is = is
 after-updated variant s j x (suc n) is = update-updated variant.family _ _
 

@@ -10,7 +10,7 @@ use Rattle.aegis_base.specs.Variant.{Variant, rate}
 use Rattle.aegis_base.specs.Lane.{IsTagLength, finalize, lane_tag, init, update}
 use Rattle.aegis_base.specs.Laws.{AgreeInLane}
 use Rattle.aegis_base.specs.Mac.{alone, first_folded, fold, mac, mac_input, mac_lane, mac_tag, tags_from}
-use Rattle.aegis_base.specs.Message.{after, after_all, block_count, share_at}
+use Rattle.aegis_base.specs.Message.{lane_after, after_all, block_count, share_at}
 use Rattle.aegis_base.proofs.LaneFacts.{bytes_at-append, count_positive}
 use Rattle.aegis_base.proofs.Lengths.{IsUpdated, IsWhole, after-updated, finalize-updated, finalize-whole, length-lane_tag, init-updated}
 use Rattle.aegis_base.proofs.LaneIndependence.{after_all-in_lane}
@@ -72,7 +72,7 @@ mac_tag-folded variant n lanes (inr (inr four)) more = rw four refl
 pub fold-is : (variant : Variant) (n : ℕ) (lanes : ℕ → List (List ℕ)) (bytes : List ℕ) (k turns : ℕ) (s : List (List ℕ))
     → k ≡ first_folded variant.family n → turns * rate (alone variant) ≡ (variant.lanes - k) * n
     → ((j : ℕ) → j < variant.lanes → bytes_at bytes (n * j) n ≡ lane_tag variant.family n (lanes j))
-    → ((x : List ℕ) → ((i : ℕ) → i < turns * rate (alone variant) → slice_index x i ≡ slice_index bytes (n * k + i)) → s ≡ after (alone variant) (lanes 0) 0 x turns)
+    → ((x : List ℕ) → ((i : ℕ) → i < turns * rate (alone variant) → slice_index x i ≡ slice_index bytes (n * k + i)) → s ≡ lane_after (alone variant) (lanes 0) 0 x turns)
     → s ≡ fold variant n lanes
 unfolding tags_from
 fold-is variant n lanes bytes k turns s first whole each along =
@@ -96,7 +96,7 @@ mac_input-some variant (byte ∷ rest) some = refl
 pub mac_input-none : (variant : Variant) (s : List (List ℕ)) (j : ℕ) (z : List ℕ) (a : ℕ) → IsLaneCount variant.lanes → j < variant.lanes
     → ((k : ℕ) → k < rate variant → slice_index z (a + k) ≡ 0)
     → update variant.family s (share_at variant j z a) ≡ after_all variant s j (mac_input variant [])
-unfolding after
+unfolding lane_after
 mac_input-none variant s j z a count inside zeros =
     let r : ℕ = rate variant in
     let positive : 0 < r = rate-positive variant count in

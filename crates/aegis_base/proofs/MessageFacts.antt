@@ -6,7 +6,7 @@ use Rattle.aegis_aes.specs.Block.{block_at, xor}
 use Rattle.aegis_aes.specs.Lanes.{IsLaneCount}
 use Rattle.aegis_base.specs.Variant.{Family, Family128, Family256, Variant, rate, width}
 use Rattle.aegis_base.specs.Lane.{keystream_blocks, block_in, init, update}
-use Rattle.aegis_base.specs.Message.{after, block_count, blocks_at, keystream_byte, lane_before, lane_of, share, share_at}
+use Rattle.aegis_base.specs.Message.{lane_after, block_count, blocks_at, keystream_byte, lane_before, lane_of, share, share_at}
 use Rattle.aegis_aes.proofs.Places.{get_or-bytes_at, length-bytes_at}
 use Rattle.aegis_base.proofs.LaneFacts.{bytes_at-same}
 
@@ -39,8 +39,8 @@ share_at-same variant j x y a b inside same = blocks_at-same variant.family vari
 
 pub after-same : (variant : Variant) (s : List (List ℕ)) (j : ℕ) (x y : List ℕ) (n : ℕ) → j < variant.lanes
     → ((k : ℕ) → k < n * rate variant → slice_index x k ≡ slice_index y k)
-    → after variant s j x n ≡ after variant s j y n
-unfolding after
+    → lane_after variant s j x n ≡ lane_after variant s j y n
+unfolding lane_after
 after-same variant s j x y zero inside same = refl
 after-same variant s j x y (suc n) inside same =
     let before = after-same variant s j x y n inside (λ k h. same k (omega arith)) in
@@ -48,13 +48,13 @@ after-same variant s j x y (suc n) inside same =
     (λ k h. same (n * rate variant + k) (omega arith)) in
     rw (before, taken) refl
 
-pub after-none : (variant : Variant) (s : List (List ℕ)) (j : ℕ) (x : List ℕ) → after variant s j x 0 ≡ s
-unfolding after
+pub after-none : (variant : Variant) (s : List (List ℕ)) (j : ℕ) (x : List ℕ) → lane_after variant s j x 0 ≡ s
+unfolding lane_after
 after-none variant s j x = refl
 
 pub after-more : (variant : Variant) (s : List (List ℕ)) (j : ℕ) (x : List ℕ) (n : ℕ)
-    → after variant s j x (n + 1) ≡ update variant.family (after variant s j x n) (share variant j n x)
-unfolding after
+    → lane_after variant s j x (n + 1) ≡ update variant.family (lane_after variant s j x n) (share variant j n x)
+unfolding lane_after
 after-more variant s j x n = rw add-one refl
 
 -- ---- places

@@ -35,5 +35,5 @@ OpensChunks variant tag_bytes cipher ad room chunks tag m =
     Opens variant tag_bytes cipher.key cipher.nonce ad (accepted room chunks) tag m
 
 -- a destination that was `old`, after the n bytes written to its beginning were refused: n zeros, and then old bytes
-abbrev pub erased : (n : ℕ) (old : List ℕ) → List ℕ
-erased n old = replicate n 0 ++ drop n old
+abbrev pub zeroed : (n : ℕ) (old : List ℕ) → List ℕ
+zeroed n old = replicate n 0 ++ drop n old

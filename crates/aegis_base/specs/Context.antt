@@ -3,11 +3,11 @@
 use Rattle.std.specs.Prelude.{◌≡◌, ℕ, ◌+◌, ◌*◌, ◌/◌, ◌%◌, ◌<◌, ◌++◌, ◌↔◌, List, [], length, map, slice_index, slice_index_or}
 use Rattle.std.specs.List.{range_with_len}
 use Rattle.aegis_base.specs.Variant.{Variant, rate}
-use Rattle.aegis_base.specs.Message.{Opens, after, block_count, ciphertext, lane_before, tag}
+use Rattle.aegis_base.specs.Message.{Opens, lane_after, block_count, ciphertext, lane_before, tag}
 
 -- after the first t bytes of x, `lanes` have become `here`, and the open block is `block`
 pub record IsAlong (variant : Variant) (lanes here : ℕ → List (List ℕ)) (block x : List ℕ) (t : ℕ) : Type 0 where
-  pub whole : (j : ℕ) → j < variant.lanes → here j ≡ after variant (lanes j) j x (t / rate variant)
+  pub whole : (j : ℕ) → j < variant.lanes → here j ≡ lane_after variant (lanes j) j x (t / rate variant)
   pub open_block : (k : ℕ) → k < t % rate variant → slice_index block k ≡ slice_index x (t / rate variant * rate variant + k)
 
 -- lanes 0 to n - 1 as a list, and lane j of such a list

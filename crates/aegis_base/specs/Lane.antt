@@ -2,7 +2,7 @@
 use Rattle.std.specs.Prelude.{◌≡◌, ℕ, zero, suc, ◌==◌, ◌⊎◌, List, [], ◌∷◌, ◌++◌, take, drop, if◌then◌else◌, slice_index_or}
 use Rattle.std.specs.Int.{w64, to_le_bytes}
 use Rattle.aegis_aes.specs.Block.{and, xor}
-use Rattle.aegis_aes.specs.Lanes.{context}
+use Rattle.aegis_aes.specs.Lanes.{context_block}
 use Rattle.aegis_aes.specs.Round.{round}
 use Rattle.aegis_base.specs.Variant.{Family, Family128, Family256, Variant, long_tag_bytes}
 
@@ -86,7 +86,7 @@ init_turns Family256 = 4
 -- lane j after initialization with a key and a nonce (AEGIS, Init)
 unfoldable pub init : (variant : Variant) (key nonce : List ℕ) (j : ℕ) → List (List ℕ)
 init variant key nonce j =
-    times (init_turns variant.family) (init_turn variant.family key nonce (context j variant.lanes))
+    times (init_turns variant.family) (init_turn variant.family key nonce (context_block j variant.lanes))
     (first_blocks variant.family key nonce)
 
 -- the blocks of keystream of a lane (AEGIS, Enc)

@@ -20,9 +20,9 @@ abbrev pub share : (variant : Variant) (j n : ℕ) (x : List ℕ) → List (List
 share variant j n x = share_at variant j x (n * rate variant)
 
 -- lane j, which was s, after the first n rate blocks of x
-unfoldable pub after : (variant : Variant) (s : List (List ℕ)) (j : ℕ) (x : List ℕ) (n : ℕ) → List (List ℕ)
-after variant s j x zero = s
-after variant s j x (suc n) = update variant.family (after variant s j x n) (share variant j n x)
+unfoldable pub lane_after : (variant : Variant) (s : List (List ℕ)) (j : ℕ) (x : List ℕ) (n : ℕ) → List (List ℕ)
+lane_after variant s j x zero = s
+lane_after variant s j x (suc n) = update variant.family (lane_after variant s j x n) (share variant j n x)
 
 -- the number of rate blocks of n bytes, the last one perhaps in part
 abbrev pub block_count : (variant : Variant) (n : ℕ) → ℕ
@@ -30,7 +30,7 @@ block_count variant n = (n + (rate variant - 1)) / rate variant
 
 -- lane j, which was s, after all of x
 abbrev pub after_all : (variant : Variant) (s : List (List ℕ)) (j : ℕ) (x : List ℕ) → List (List ℕ)
-after_all variant s j x = after variant s j x (block_count variant (length x))
+after_all variant s j x = lane_after variant s j x (block_count variant (length x))
 
 -- the lane that byte i of a message belongs to
 abbrev pub lane_of : (lanes i : ℕ) → ℕ
@@ -44,7 +44,7 @@ keystream_byte variant lanes i =
 -- byte i of the keystream along the message m, from the lanes before m
 abbrev pub keystream_byte_along : (variant : Variant) (lanes : ℕ → List (List ℕ)) (m : List ℕ) (i : ℕ) → ℕ
 keystream_byte_along variant lanes m i =
-    keystream_byte variant (λ j. after variant (lanes j) j m (i / rate variant)) i
+    keystream_byte variant (λ j. lane_after variant (lanes j) j m (i / rate variant)) i
 
 -- byte i of the ciphertext of m, from the lanes before m
 abbrev pub ciphertext_byte : (variant : Variant) (lanes : ℕ → List (List ℕ)) (m : List ℕ) (i : ℕ) → ℕ

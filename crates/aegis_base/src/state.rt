@@ -3,7 +3,7 @@
 ghost use Rattle.std.specs.Prelude.{◌≡◌, ℕ, ◌+◌, ◌-◌, ◌*◌, ◌^◌, ◌<◌, ◌≤◌, ◌++◌, List, length, slice_index};
 ghost use Rattle.aegis_aes.specs.Private.{IsSameBefore, IsSameFrom};
 ghost use Rattle.aegis_aes.specs.Block.{block_at, xor};
-ghost use Rattle.aegis_aes.specs.Lanes.{IsLaneCount, context, xor_lanes};
+ghost use Rattle.aegis_aes.specs.Lanes.{IsLaneCount, context_block, xor_lanes};
 ghost use Rattle.aegis_base.specs.Variant.{Variant, cipher_name, key_length, module_name, rate, width};
 ghost use Rattle.aegis_base.specs.Lane.{finalize, first_blocks, high_tag, keystream_blocks, lane_tag, last_block, last_input, low_tag, block_in, short_tag, init, init_turn, init_turns, update, times};
 ghost use Rattle.aegis_base.specs.Mac.{alone};
@@ -65,7 +65,7 @@ pub trait LaneState: Copy {
         ensures lanes { (j : ℕ) → j < VARIANT.lanes
             → lane self.new j
             ≡ times (init_turns VARIANT.family)
-            (init_turn VARIANT.family key.now nonce.now (context j VARIANT.lanes))
+            (init_turn VARIANT.family key.now nonce.now (context_block j VARIANT.lanes))
             (lane self.old j) }
         ensures updates { updates self.new ≡ 0 };
 

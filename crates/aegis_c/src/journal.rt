@@ -3,7 +3,7 @@
 //!
 //! Each returns a code of `aegis_c_calls::refusal`. After a code other than 0, nothing has changed.
 
-ghost use Rattle.aegis_c_calls.specs.Codes.{variant_of};
+ghost use Rattle.aegis_c_calls.specs.Codes.{variant_numbered};
 ghost use Rattle.aegis_c_calls.specs.PageCalls.{JournalBegin, JournalCheck, JournalEntry, JournalFinal, JournalNext};
 
 use crate::by_variant::by_variant;
@@ -25,8 +25,8 @@ pub extern "C" fn hunkravy_proved_journal_init(
     k: &[u8],
     start: &mut [u8; 528],
 ) -> i32
-    ensures { JournalBegin (variant_of variant) k.now id.now nonce.now page_bytes st.old st.new
-        start.old start.new result }
+    ensures { JournalBegin (variant_numbered variant) k.now id.now nonce.now page_bytes
+        st.old st.new start.old start.new result }
 {
     by_variant!(
         variant,
@@ -65,8 +65,8 @@ pub extern "C" fn hunkravy_proved_journal_check(
     journal: &[u8],
     writes: &mut usize,
 ) -> i32
-    ensures { JournalCheck (variant_of variant) k.now file.now journal.now writes.old writes.new
-        result }
+    ensures { JournalCheck (variant_numbered variant) k.now file.now journal.now
+        writes.old writes.new result }
 {
     by_variant!(
         variant,

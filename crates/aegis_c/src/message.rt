@@ -4,7 +4,7 @@
 
 ghost use Rattle.std.specs.Prelude.{◌≡◌, length};
 ghost use Rattle.aegis_c_calls.specs.Calls.{Decrypt, Encrypt, Mac, MacVerify, Stream, StreamXorInPlace};
-ghost use Rattle.aegis_c_calls.specs.Codes.{lengths_code, key_bytes_of, variant_of};
+ghost use Rattle.aegis_c_calls.specs.Codes.{lengths_code, key_bytes_of, variant_numbered};
 
 use crate::by_variant::by_variant;
 use aegis_128::{State128X1, State128X2, State128X4};
@@ -16,7 +16,7 @@ use aegis_c_calls::variant::*;
 /// Returns the length of the variant's keys, and of its nonces, in bytes. Returns 0 if no variant has this number.
 #[unsafe(no_mangle)]
 pub extern "C" fn hunkravy_proved_key_bytes(variant: u32) -> usize
-    ensures { result ≡ key_bytes_of (variant_of variant) }
+    ensures { result ≡ key_bytes_of (variant_numbered variant) }
 {
     key_bytes(variant)
 }
@@ -31,7 +31,7 @@ pub extern "C" fn hunkravy_proved_check_lengths(
     adlen: usize,
     maclen: usize,
 ) -> i32
-    ensures { result ≡ lengths_code (variant_of variant) klen npublen mlen adlen maclen }
+    ensures { result ≡ lengths_code (variant_numbered variant) klen npublen mlen adlen maclen }
 {
     by_variant!(
         variant,
@@ -50,7 +50,7 @@ pub extern "C" fn hunkravy_proved_encrypt_in_place(
     k: &[u8],
     mac: &mut [u8],
 ) -> i32
-    ensures { Encrypt (variant_of variant) k.now npub.now ad.now
+    ensures { Encrypt (variant_numbered variant) k.now npub.now ad.now
         mc.old mc.old mc.new mac.old mac.new result }
 {
     by_variant!(
@@ -72,7 +72,7 @@ pub extern "C" fn hunkravy_proved_encrypt(
     mac: &mut [u8],
 ) -> i32
     requires { length m.now ≡ length c.old }
-    ensures { Encrypt (variant_of variant) k.now npub.now ad.now
+    ensures { Encrypt (variant_numbered variant) k.now npub.now ad.now
         m.now c.old c.new mac.old mac.new result }
 {
     by_variant!(
@@ -92,7 +92,7 @@ pub extern "C" fn hunkravy_proved_decrypt_in_place(
     k: &[u8],
     mac: &[u8],
 ) -> i32
-    ensures { Decrypt (variant_of variant) k.now npub.now ad.now
+    ensures { Decrypt (variant_numbered variant) k.now npub.now ad.now
         mc.old mc.old mc.new mac.now result }
 {
     by_variant!(
@@ -114,7 +114,7 @@ pub extern "C" fn hunkravy_proved_decrypt(
     mac: &[u8],
 ) -> i32
     requires { length c.now ≡ length m.old }
-    ensures { Decrypt (variant_of variant) k.now npub.now ad.now
+    ensures { Decrypt (variant_numbered variant) k.now npub.now ad.now
         c.now m.old m.new mac.now result }
 {
     by_variant!(
@@ -127,7 +127,7 @@ pub extern "C" fn hunkravy_proved_decrypt(
 /// Overwrites `out` with keystream.
 #[unsafe(no_mangle)]
 pub extern "C" fn hunkravy_proved_stream(variant: u32, out: &mut [u8], npub: &[u8], k: &[u8]) -> i32
-    ensures { Stream (variant_of variant) k.now npub.now out.old out.new result }
+    ensures { Stream (variant_numbered variant) k.now npub.now out.old out.new result }
 {
     by_variant!(
         variant,
@@ -144,7 +144,7 @@ pub extern "C" fn hunkravy_proved_stream_xor_in_place(
     npub: &[u8],
     k: &[u8],
 ) -> i32
-    ensures { StreamXorInPlace (variant_of variant) k.now npub.now mc.old mc.new result }
+    ensures { StreamXorInPlace (variant_numbered variant) k.now npub.now mc.old mc.new result }
 {
     by_variant!(
         variant,
@@ -162,7 +162,7 @@ pub extern "C" fn hunkravy_proved_mac(
     k: &[u8],
     out: &mut [u8],
 ) -> i32
-    ensures { Mac (variant_of variant) k.now npub.now input.now out.old out.new result }
+    ensures { Mac (variant_numbered variant) k.now npub.now input.now out.old out.new result }
 {
     by_variant!(
         variant,
@@ -180,7 +180,7 @@ pub extern "C" fn hunkravy_proved_mac_verify(
     k: &[u8],
     mac: &[u8],
 ) -> i32
-    ensures { MacVerify (variant_of variant) k.now npub.now input.now mac.now result }
+    ensures { MacVerify (variant_numbered variant) k.now npub.now input.now mac.now result }
 {
     by_variant!(
         variant,

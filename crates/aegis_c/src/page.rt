@@ -3,7 +3,7 @@
 //!
 //! Each returns a code of `aegis_c_calls::refusal`. After a code but that of an invalid tag, nothing has changed.
 
-ghost use Rattle.aegis_c_calls.specs.Codes.{variant_of};
+ghost use Rattle.aegis_c_calls.specs.Codes.{variant_numbered};
 ghost use Rattle.aegis_c_calls.specs.PageCalls.{PageHeaderOpen, PageHeaderSeal, PageOpen, PagePlace, PageSeal, header_of};
 
 use crate::by_variant::by_variant;
@@ -21,7 +21,7 @@ pub extern "C" fn hunkravy_proved_page_place(
     number: u64,
     place: &mut u64,
 ) -> i32
-    ensures { PagePlace (variant_of variant) page_bytes number place.old place.new result }
+    ensures { PagePlace (variant_numbered variant) page_bytes number place.old place.new result }
 {
     by_variant!(
         variant,
@@ -40,7 +40,8 @@ pub extern "C" fn hunkravy_proved_page_seal(
     npub: &[u8],
     k: &[u8],
 ) -> i32
-    ensures { PageSeal (variant_of variant) k.now id.now npub.now number page.old page.new result }
+    ensures { PageSeal (variant_numbered variant) k.now id.now npub.now number
+        page.old page.new result }
 {
     by_variant!(
         variant,
@@ -59,7 +60,7 @@ pub extern "C" fn hunkravy_proved_page_open(
     number: u64,
     k: &[u8],
 ) -> i32
-    ensures { PageOpen (variant_of variant) k.now id.now number page.old page.new result }
+    ensures { PageOpen (variant_numbered variant) k.now id.now number page.old page.new result }
 {
     by_variant!(
         variant,
@@ -80,7 +81,7 @@ pub extern "C" fn hunkravy_proved_page_header_seal(
     npub: &[u8],
     k: &[u8],
 ) -> i32
-    ensures { PageHeaderSeal (variant_of variant) k.now id.now npub.now page_bytes counter len
+    ensures { PageHeaderSeal (variant_numbered variant) k.now id.now npub.now page_bytes counter len
         header_block.old header_block.new result }
 {
     by_variant!(
@@ -101,7 +102,7 @@ pub extern "C" fn hunkravy_proved_page_header_open(
     counter: &mut u64,
     len: &mut u64,
 ) -> i32
-    ensures { PageHeaderOpen (variant_of variant) k.now header_block.now
+    ensures { PageHeaderOpen (variant_numbered variant) k.now header_block.now
         (header_of page_bytes.old id.old counter.old len.old)
         (header_of page_bytes.new id.new counter.new len.new) result }
 {

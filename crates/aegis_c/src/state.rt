@@ -6,7 +6,7 @@
 
 ghost use Rattle.std.specs.Prelude.{◌≡◌, [], length};
 ghost use Rattle.aegis_c_calls.specs.Calls.{Begins, MacFinal, MacFinalVerify, MacUpdate, StateDecryptCheck, StateDecryptFinal, StateDecryptUnverified, StateEncrypt, StateEncryptFinal};
-ghost use Rattle.aegis_c_calls.specs.Codes.{chunk_code, variant_of};
+ghost use Rattle.aegis_c_calls.specs.Codes.{chunk_code, variant_numbered};
 
 use crate::by_variant::by_variant;
 use aegis_128::{State128X1, State128X2, State128X4};
@@ -74,7 +74,7 @@ pub extern "C" fn hunkravy_proved_state_init(
     npub: &[u8],
     k: &[u8],
 ) -> i32
-    ensures { Begins (variant_of variant) variant MESSAGE k.now npub.now ad.now
+    ensures { Begins (variant_numbered variant) variant MESSAGE k.now npub.now ad.now
         st.old st.new result }
 {
     by_variant!(
@@ -87,7 +87,7 @@ pub extern "C" fn hunkravy_proved_state_init(
 /// Returns the code of [`hunkravy_proved_state_encrypt_in_place`] for so many bytes.
 #[unsafe(no_mangle)]
 pub extern "C" fn hunkravy_proved_state_may_encrypt(st: &State, mlen: usize) -> i32
-    ensures { result ≡ chunk_code (variant_of st.now.variant) st.now MESSAGE ENCRYPTING mlen }
+    ensures { result ≡ chunk_code (variant_numbered st.now.variant) st.now MESSAGE ENCRYPTING mlen }
 {
     by_variant!(
         st.variant,
@@ -99,7 +99,7 @@ pub extern "C" fn hunkravy_proved_state_may_encrypt(st: &State, mlen: usize) -> 
 /// Returns the code of [`hunkravy_proved_state_decrypt_in_place_unverified`] for so many bytes.
 #[unsafe(no_mangle)]
 pub extern "C" fn hunkravy_proved_state_may_decrypt(st: &State, clen: usize) -> i32
-    ensures { result ≡ chunk_code (variant_of st.now.variant) st.now MESSAGE DECRYPTING clen }
+    ensures { result ≡ chunk_code (variant_numbered st.now.variant) st.now MESSAGE DECRYPTING clen }
 {
     by_variant!(
         st.variant,
@@ -111,7 +111,8 @@ pub extern "C" fn hunkravy_proved_state_may_decrypt(st: &State, clen: usize) -> 
 /// Encrypts the next bytes of the message in place.
 #[unsafe(no_mangle)]
 pub extern "C" fn hunkravy_proved_state_encrypt_in_place(st: &mut State, mc: &mut [u8]) -> i32
-    ensures { StateEncrypt (variant_of st.old.variant) st.old st.new mc.old mc.old mc.new result }
+    ensures { StateEncrypt (variant_numbered st.old.variant) st.old st.new
+        mc.old mc.old mc.new result }
 {
     by_variant!(st.variant, Refusal::WrongState, chunk encrypted(st, mc))
 }
@@ -120,7 +121,8 @@ pub extern "C" fn hunkravy_proved_state_encrypt_in_place(st: &mut State, mc: &mu
 #[unsafe(no_mangle)]
 pub extern "C" fn hunkravy_proved_state_encrypt(st: &mut State, m: &[u8], c: &mut [u8]) -> i32
     requires { length m.now ≡ length c.old }
-    ensures { StateEncrypt (variant_of st.old.variant) st.old st.new m.now c.old c.new result }
+    ensures { StateEncrypt (variant_numbered st.old.variant) st.old st.new
+        m.now c.old c.new result }
 {
     by_variant!(st.variant, Refusal::WrongState, chunk encrypted_into(st, m, c))
 }
@@ -128,7 +130,8 @@ pub extern "C" fn hunkravy_proved_state_encrypt(st: &mut State, m: &[u8], c: &mu
 /// Writes the tag of the message, of 16 or 32 bytes, to `mac`, and ends the state.
 #[unsafe(no_mangle)]
 pub extern "C" fn hunkravy_proved_state_encrypt_final(st: &mut State, mac: &mut [u8]) -> i32
-    ensures { StateEncryptFinal (variant_of st.old.variant) st.old st.new mac.old mac.new result }
+    ensures { StateEncryptFinal (variant_numbered st.old.variant) st.old st.new
+        mac.old mac.new result }
 {
     by_variant!(
         st.variant,
@@ -143,7 +146,7 @@ pub extern "C" fn hunkravy_proved_state_decrypt_in_place_unverified(
     st: &mut State,
     mc: &mut [u8],
 ) -> i32
-    ensures { StateDecryptUnverified (variant_of st.old.variant) st.old st.new
+    ensures { StateDecryptUnverified (variant_numbered st.old.variant) st.old st.new
         mc.old mc.old mc.new result }
 {
     by_variant!(st.variant, Refusal::WrongState, chunk decrypted(st, mc))
@@ -157,8 +160,8 @@ pub extern "C" fn hunkravy_proved_state_decrypt_unverified(
     m: &mut [u8],
 ) -> i32
     requires { length c.now ≡ length m.old }
-    ensures { StateDecryptUnverified (variant_of st.old.variant) st.old st.new c.now m.old m.new
-        result }
+    ensures { StateDecryptUnverified (variant_numbered st.old.variant) st.old st.new
+        c.now m.old m.new result }
 {
     by_variant!(st.variant, Refusal::WrongState, chunk decrypted_into(st, c, m))
 }
@@ -166,7 +169,7 @@ pub extern "C" fn hunkravy_proved_state_decrypt_unverified(
 /// Takes in the next bytes of the ciphertext, without writing the message.
 #[unsafe(no_mangle)]
 pub extern "C" fn hunkravy_proved_state_decrypt_check(st: &mut State, c: &[u8]) -> i32
-    ensures { StateDecryptCheck (variant_of st.old.variant) st.old st.new c.now result }
+    ensures { StateDecryptCheck (variant_numbered st.old.variant) st.old st.new c.now result }
 {
     by_variant!(st.variant, Refusal::WrongState, chunk checked(st, c))
 }
@@ -179,7 +182,7 @@ pub extern "C" fn hunkravy_proved_state_decrypt_final(
     m: &mut [u8],
     mac: &[u8],
 ) -> i32
-    ensures { StateDecryptFinal (variant_of st.old.variant) st.old st.new
+    ensures { StateDecryptFinal (variant_numbered st.old.variant) st.old st.new
         m.old m.new mac.now result }
 {
     by_variant!(
@@ -197,7 +200,7 @@ pub extern "C" fn hunkravy_proved_mac_init(
     npub: &[u8],
     k: &[u8],
 ) -> i32
-    ensures { Begins (variant_of variant) variant MAC k.now npub.now [] st.old st.new result }
+    ensures { Begins (variant_numbered variant) variant MAC k.now npub.now [] st.old st.new result }
 {
     by_variant!(
         variant,
@@ -209,7 +212,7 @@ pub extern "C" fn hunkravy_proved_mac_init(
 /// Takes in the next bytes of the input of a MAC.
 #[unsafe(no_mangle)]
 pub extern "C" fn hunkravy_proved_mac_update(st: &mut State, input: &[u8]) -> i32
-    ensures { MacUpdate (variant_of st.old.variant) st.old st.new input.now result }
+    ensures { MacUpdate (variant_numbered st.old.variant) st.old st.new input.now result }
 {
     by_variant!(st.variant, Refusal::WrongState, chunk updated(st, input))
 }
@@ -217,7 +220,7 @@ pub extern "C" fn hunkravy_proved_mac_update(st: &mut State, input: &[u8]) -> i3
 /// Writes the MAC of the input so far, of 16 or 32 bytes, to `mac`. The state is unchanged.
 #[unsafe(no_mangle)]
 pub extern "C" fn hunkravy_proved_mac_final(st: &State, mac: &mut [u8]) -> i32
-    ensures { MacFinal (variant_of st.now.variant) st.now mac.old mac.new result }
+    ensures { MacFinal (variant_numbered st.now.variant) st.now mac.old mac.new result }
 {
     by_variant!(st.variant, Refusal::WrongState, calls::mac_final(st, mac))
 }
@@ -225,7 +228,7 @@ pub extern "C" fn hunkravy_proved_mac_final(st: &State, mac: &mut [u8]) -> i32
 /// Returns 0 if `mac` is the MAC of the input so far, and -1 if it is not. The state is unchanged.
 #[unsafe(no_mangle)]
 pub extern "C" fn hunkravy_proved_mac_final_verify(st: &State, mac: &[u8]) -> i32
-    ensures { MacFinalVerify (variant_of st.now.variant) st.now mac.now result }
+    ensures { MacFinalVerify (variant_numbered st.now.variant) st.now mac.now result }
 {
     by_variant!(
         st.variant,

@@ -6,7 +6,7 @@ use Rattle.aegis.specs.declared.record.version.TheConstants.{MAX_MESSAGE_BYTES}
 use Rattle.aegis.specs.declared.record.version.Version.TheVariants.{Second}
 use Rattle.aegis.proofs.Stepwise.{begun_last, begun_more, begun_none, length-record}
 use Rattle.aegis_c_calls.specs.Calls.{after_record, progress_of, state_at}
-use Rattle.aegis_c_calls.specs.Codes.{next_position}
+use Rattle.aegis_c_calls.specs.Codes.{position_of}
 use Rattle.aegis_c_calls.specs.declared.record.state.RecordState.{RecordState}
 
 pub first_begun : (st : RecordState) (mark : ℕ) (key prefix context bytes : List ℕ) → st ≡ state_at mark 0 0 key prefix
@@ -15,7 +15,7 @@ first_begun st mark key prefix context bytes is e = rw is (begun_none key prefix
 
 message_long : (st : RecordState) (context : List ℕ) (flag : ℕ) (m bytes : List ℕ) → bytes ≡ record_of (progress_of st context) flag m
     → length bytes ≡ 37 + length m
-message_long st context flag m bytes e = ap length e ∙ length-record st.key st.prefix context (next_position st) flag m
+message_long st context flag m bytes e = ap length e ∙ length-record st.key st.prefix context (position_of st) flag m
 
 pub next_begun : (st st' : RecordState) (context : List ℕ) (n : ℕ) (m bytes : List ℕ) → st' ≡ after_record st n → n ≡ length bytes
     → length bytes ≤ 37 + MAX_MESSAGE_BYTES → bytes ≡ record_of (progress_of st context) 0 m

@@ -9,7 +9,7 @@ use Rattle.aegis_base.specs.Variant.{Aegis128L, Variant}
 use Rattle.aegis_base.proofs.MacFacts.{length_mac}
 use Rattle.aegis_engine.specs.Saved.{HasTaken, IsSaved}
 use Rattle.aegis_engine.specs.declared.saved.SavedContext.{SavedContext}
-use Rattle.aegis_pages.specs.Commits.{AreWritesOf, IsAccepted, IsOfCommit, head_bytes, journal_key}
+use Rattle.aegis_pages.specs.Commits.{AreWritesOf, IsJournalAccepted, IsOfCommit, head_bytes, journal_key}
 use Rattle.aegis_pages.specs.declared.header.FileHeader.{FileHeader}
 use Rattle.aegis_pages.proofs.CommitFacts.{false_is_not}
 use Rattle.aegis_storage.specs.Disk.{Writes, part_at}
@@ -121,10 +121,10 @@ one_journaled variant key journal (Some vs) (Some ws) p q = ap Some (one_journal
 
 -- what was found decides
 pub decided : (variant : Variant) (key file journal : List ℕ) (header : Option FileHeader) (writes : Option Writes) → IsLaneCount variant.lanes → IsHeaderIn variant key file header → AreJournaled variant key journal writes
-    → MayBeEmptied variant key file journal → IsAccepted variant key (header_block_of file) header writes journal
+    → MayBeEmptied variant key file journal → IsJournalAccepted variant key (header_block_of file) header writes journal
 decided variant key file journal header writes count is are may =
-    subst (λ (o : Option FileHeader). IsAccepted variant key (header_block_of file) o writes journal) (one_header_in variant key file may.0 header count may.2 is)
-    (subst (λ (o : Option Writes). IsAccepted variant key (header_block_of file) may.0 o journal) (one_journaled variant key journal may.1 writes may.3 are) may.4)
+    subst (λ (o : Option FileHeader). IsJournalAccepted variant key (header_block_of file) o writes journal) (one_header_in variant key file may.0 header count may.2 is)
+    (subst (λ (o : Option Writes). IsJournalAccepted variant key (header_block_of file) may.0 o journal) (one_journaled variant key journal may.1 writes may.3 are) may.4)
 
 -- what was read of a journal, as its writes
 pub journaled : {R : Type 0} (now : R → List ℕ) (variant : Variant) (key made journal : List ℕ) (content : Option R) → made ≡ journal_key variant key
@@ -156,23 +156,23 @@ pub record WasRead (variant : Variant) (key file journal : List ℕ) (header : O
   pub count : IsLaneCount variant.lanes
   pub is : IsHeaderIn variant key file header
   pub are : AreJournaled variant key journal writes
-  pub decides : IsTrue accepted ↔ IsAccepted variant key (header_block_of file) header writes journal
+  pub decides : IsTrue accepted ↔ IsJournalAccepted variant key (header_block_of file) header writes journal
 
 pub was_read : {R : Type 0} (now : R → List ℕ) (variant : Variant) (k key made file journal : List ℕ) (header_block : Option (List ℕ)) (header : Option FileHeader) (content : Option R) (accepted : Bool)
     → IsLaneCount variant.lanes → k ≡ key → made ≡ journal_key variant k → header_block ≡ header_block_of file → IsHeaderIn variant k file header
     → IfSome content (λ l. IsContent made [] journal (now l)) → IfNone content ((writes : Writes) → IsJournal made [] writes journal → ⊥)
-    → ((writes : Option Writes) → AreWritesOf writes (option_map now content) → IsTrue accepted ↔ IsAccepted variant k header_block header writes journal)
+    → ((writes : Option Writes) → AreWritesOf writes (option_map now content) → IsTrue accepted ↔ IsJournalAccepted variant k header_block header writes journal)
     → (writes : Option Writes) × WasRead variant key file journal header writes accepted
 was_read now variant k key made file journal header_block header content accepted count own same block is some none decides =
     let read = journaled now variant key made journal content (same ∙ ap (journal_key variant) own) some none in
-    let all : IsTrue accepted ↔ IsAccepted variant k header_block header read.0 journal = decides read.0 read.2 in (
+    let all : IsTrue accepted ↔ IsJournalAccepted variant k header_block header read.0 journal = decides read.0 read.2 in (
       read.0,
       record {
         count = count;
         is = subst (λ (l : List ℕ). IsHeaderIn variant l file header) own is;
         are = read.1;
-        decides = subst (λ (l : List ℕ). IsTrue accepted ↔ IsAccepted variant l (header_block_of file) header read.0 journal) own
-            (subst (λ (o : Option (List ℕ)). IsTrue accepted ↔ IsAccepted variant k o header read.0 journal) block all);
+        decides = subst (λ (l : List ℕ). IsTrue accepted ↔ IsJournalAccepted variant l (header_block_of file) header read.0 journal) own
+            (subst (λ (o : Option (List ℕ)). IsTrue accepted ↔ IsJournalAccepted variant k o header read.0 journal) block all);
       },
     )
 
@@ -196,7 +196,7 @@ pub own_may_be : (variant : Variant) (key file journal : List ℕ) (header : Opt
     → IsOfCommit (take (head_bytes variant) (take 512 file)) own → MayBeEmptied variant key file journal
 own_may_be variant key file journal header writes accepted read own is long of_commit = (header, Some own, read.is, is, accept header)
   where
-    accept : (h : Option FileHeader) → IsAccepted variant key (header_block_of file) h (Some own) journal
+    accept : (h : Option FileHeader) → IsJournalAccepted variant key (header_block_of file) h (Some own) journal
     accept None = tt
     accept (Some h) = rw (block_is file (length file) refl long) of_commit
 

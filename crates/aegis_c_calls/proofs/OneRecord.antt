@@ -9,7 +9,7 @@ use Rattle.aegis_pages.specs.declared.header.FileHeader.{FileHeader}
 use Rattle.aegis_pages.specs.declared.layout.TheConstants.{HEADER_NUMBER}
 use Rattle.aegis_pages.proofs.SealedFacts.{one_contents, one_layout, opens_one}
 use Rattle.aegis_storage.specs.Disk.{part_at}
-use Rattle.aegis_c_calls.specs.PageCalls.{HasHeader, file_of, header_of}
+use Rattle.aegis_c_calls.specs.PageCalls.{BlockHasHeader, file_of, header_of}
 use Rattle.aegis.specs.Calls.{IsRecord, IsRecordFault, Progress, message_at, message_in, record_of, rest_at, sealing_in}
 use Rattle.aegis.specs.RecordStream.{frame, limit}
 use Rattle.aegis.specs.declared.record.error.RecordError.{RecordError}
@@ -22,7 +22,7 @@ same_header a b size id counter len =
     ap (λ (p : ℕ). header_of p a.id a.counter a.len) size ∙ ap (λ (i : List ℕ). header_of b.page_bytes i a.counter a.len) id
     ∙ ap (λ (c : ℕ). header_of b.page_bytes b.id c a.len) counter ∙ ap (λ (n : ℕ). header_of b.page_bytes b.id b.counter n) len
 
-pub one_header : (variant : Variant) (key header_block : List ℕ) (a b : FileHeader) → IsLaneCount variant.lanes → HasHeader variant key header_block a → HasHeader variant key header_block b → a ≡ b
+pub one_header : (variant : Variant) (key header_block : List ℕ) (a b : FileHeader) → IsLaneCount variant.lanes → BlockHasHeader variant key header_block a → BlockHasHeader variant key header_block b → a ≡ b
 one_header variant key header_block a b count first second =
     let first_file : Layout = file_of variant key a.id a.page_bytes in
     let file : Layout = file_of variant key b.id b.page_bytes in

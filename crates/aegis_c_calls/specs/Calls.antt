@@ -6,7 +6,7 @@ use Rattle.aegis_base.specs.Variant.{Variant, Family256, key_length, max_aead_by
 use Rattle.aegis_base.specs.Mac.{mac}
 use Rattle.aegis_base.specs.Message.{Opens, ciphertext, keystream, seal, tag as tag_of, xor_keystream, erased_byte}
 use Rattle.aegis_engine.specs.Saved.{HasChecked, HasSealed, HasTaken, IsSaved}
-use Rattle.aegis_c_calls.specs.Codes.{checking_role, chunk_code, context_code, decrypting_role, encrypting_role, ended_state, state_code, tag_code, head_code, lengths_code, mac_code, mac_final_code, mac_role, message_code, message_role, next_position, number_of, opened_code, opening_mark, record_code, sealing_mark, success, the, variant_code}
+use Rattle.aegis_c_calls.specs.Codes.{checking_role, chunk_code, context_code, decrypting_role, encrypting_role, ended_state, state_code, tag_code, head_code, lengths_code, mac_code, mac_final_code, mac_role, message_code, message_role, position_of, number_of, opened_code, opening_mark, record_code, sealing_mark, success, the, variant_code}
 use Rattle.aegis_c_calls.specs.declared.refusal.Refusal.TheVariants.{InvalidTag, MessageTooLong, UnknownHeader}
 use Rattle.aegis_c_calls.specs.declared.state.State.{State}
 use Rattle.aegis.specs.Calls.{Begun, Progress, message_in, progress_at, record_of, with_message}
@@ -141,7 +141,7 @@ pub record MacFinalVerify (variant : Option Variant) (st : State) (expected : Li
 
 -- the progress that a state is of, in a stream of this context
 abbrev pub progress_of : RecordState → List ℕ → Progress
-progress_of st context = progress_at st.key st.prefix context (next_position st)
+progress_of st context = progress_at st.key st.prefix context (position_of st)
 
 -- a state at the record of this number, which so many bytes of messages come before
 abbrev pub state_at : (mark number before : ℕ) (key prefix : List ℕ) → RecordState
@@ -175,7 +175,7 @@ pub record RecordBeginOpen (key prefix context : List ℕ) (old new : RecordStat
 -- The call begins to open a stream at this record, after so many bytes of messages, of which nothing is known; or changes nothing.
 pub record RecordBeginOpenAt (key prefix context : List ℕ) (number before : ℕ) (old new : RecordState) (code : ℤ) : Type 0 where
   pub answered : code ≡ context_code (length context)
-      (if leb (start_at (next_position (state_at opening_mark number before key prefix))) max_aead_bytes then success else number_of MessageTooLong)
+      (if leb (start_at (position_of (state_at opening_mark number before key prefix))) max_aead_bytes then success else number_of MessageTooLong)
   pub at : code ≡ success → new ≡ state_at opening_mark number before key prefix
   pub state_kept : code ≢ success → new ≡ old
 

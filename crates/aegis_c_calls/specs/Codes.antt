@@ -15,8 +15,8 @@ use Rattle.aegis_pages.specs.Layouts.{max_contents_bytes, max_page_bytes, min_pa
 use Rattle.aegis_storage.specs.Journal.{max_journal_bytes, max_storage_bytes, journal_start_bytes}
 
 -- the variant of a number, if it is one of the six
-abbrev pub variant_of : ℕ → Option Variant
-variant_of number =
+abbrev pub variant_numbered : ℕ → Option Variant
+variant_numbered number =
     if number == 0 then Some Aegis128L
     else if number == 1 then Some Aegis128X2
     else if number == 2 then Some Aegis128X4
@@ -173,8 +173,8 @@ mac_final_code variant st tag =
 -- ---- of a call on a record stream
 
 -- the position of the next record
-abbrev pub next_position : RecordState → RecordPosition
-next_position st = record { version = Second; number = st.number; before = st.before }
+abbrev pub position_of : RecordState → RecordPosition
+position_of st = record { version = Second; number = st.number; before = st.before }
 
 -- the marks of a stream that is sealed and of one that is opened: `aegis_rs` and `aegis_ro` in ASCII
 abbrev pub sealing_mark : ℕ
@@ -190,14 +190,14 @@ context_code context rest = if leb context max_context_bytes then rest else numb
 -- for a state that should have this mark; `rest` is the code if it has, and its stream is not past the limit
 abbrev pub mark_code : RecordState → ℕ → ℤ → ℤ
 mark_code st mark rest =
-    if st.mark == mark then (if leb (start_at (next_position st)) max_aead_bytes then rest else number_of WrongState) else number_of WrongState
+    if st.mark == mark then (if leb (start_at (position_of st)) max_aead_bytes then rest else number_of WrongState) else number_of WrongState
 
 -- for the length of the next record, which should have room for its head and its tag, and be within its limit and the stream's
 abbrev pub length_code : RecordState → ℕ → ℤ → ℤ
 length_code st bytes rest =
     if leb record_overhead bytes
     then (if leb bytes (record_overhead + limit Second)
-    then (if leb (start_at (next_position st) + bytes) max_aead_bytes then rest else number_of MessageTooLong)
+    then (if leb (start_at (position_of st) + bytes) max_aead_bytes then rest else number_of MessageTooLong)
     else number_of MessageTooLong)
     else number_of WrongRecordLength
 

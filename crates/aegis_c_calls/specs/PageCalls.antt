@@ -10,8 +10,8 @@ use Rattle.aegis_pages.specs.declared.header.FileHeader.{FileHeader}
 use Rattle.aegis_storage.specs.Disk.{Writes, part_at}
 use Rattle.aegis_engine.specs.Saved.{IsSaved}
 use Rattle.aegis_c_calls.specs.declared.state.State.{State}
-use Rattle.aegis_pages.specs.Commits.{IsAccepted, IsOfCommit, head_bytes, journal_key}
-use Rattle.aegis_storage.specs.Journal.{AreWithin, IsJournal, authenticated, entries, entry, max_journal_bytes, max_storage_bytes, journal_start_bytes, journal_beginning_bytes}
+use Rattle.aegis_pages.specs.Commits.{IsJournalAccepted, IsOfCommit, head_bytes, journal_key}
+use Rattle.aegis_storage.specs.Journal.{AreWithinStorage, IsJournal, authenticated, entries, entry, max_journal_bytes, max_storage_bytes, journal_start_bytes, journal_beginning_bytes}
 use Rattle.aegis_storage.specs.Steps.{step_at}
 use Rattle.aegis_storage.specs.declared.steps.Step.{Step}
 use Rattle.aegis_storage.specs.declared.steps.Step.TheVariants.{Done, EmptyJournal, MakeWrite, ReplaceJournal, SyncJournal, SyncStorage, WriteBeginning, WriteRest}
@@ -69,17 +69,17 @@ pub record PageHeaderSeal (variant : Option Variant) (key id nonce : List ℕ) (
   pub kept : code ≢ success → header_block' ≡ header_block
 
 -- the header block has this header, which was sealed under the key
-abbrev pub HasHeader : (variant : Variant) (key header_block : List ℕ) (header : FileHeader) → Type 0
-HasHeader variant key header_block header = IsHeaderBlock (file_of variant key header.id header.page_bytes) header.counter header.len header_block
+abbrev pub BlockHasHeader : (variant : Variant) (key header_block : List ℕ) (header : FileHeader) → Type 0
+BlockHasHeader variant key header_block header = IsHeaderBlock (file_of variant key header.id header.page_bytes) header.counter header.len header_block
 
 -- The call finds the header in `header_block`, if it was sealed under the key, and writes it over `old`; or it changes nothing.
 pub record PageHeaderOpen (variant : Option Variant) (key header_block : List ℕ) (old new : FileHeader) (code : ℤ) : Type 0 where
   pub answered : code ≢ number_of InvalidTag → code ≡ keyed_code variant (length key) success
   pub lengths : code ≡ number_of InvalidTag → keyed_code variant (length key) success ≡ success
   -- the header block has this header, and no other
-  pub opened : code ≡ success → HasHeader (the variant) key header_block new
-  pub one : code ≡ success → (header : FileHeader) → HasHeader (the variant) key header_block header → header ≡ new
-  pub accepted : (header : FileHeader) → HasHeader (the variant) key header_block header → code ≢ number_of InvalidTag
+  pub opened : code ≡ success → BlockHasHeader (the variant) key header_block new
+  pub one : code ≡ success → (header : FileHeader) → BlockHasHeader (the variant) key header_block header → header ≡ new
+  pub accepted : (header : FileHeader) → BlockHasHeader (the variant) key header_block header → code ≢ number_of InvalidTag
   pub kept : code ≢ success → new ≡ old
 
 -- ---- writing a journal: one of `aegis_storage`, under the key and the beginning that `aegis_pages` has for a file
@@ -96,7 +96,7 @@ pub record IsJournaling (key : List ℕ) (all rest : Writes) (st : State) (bytes
   pub start_size : length start ≡ journal_start_bytes
   pub split : all ≡ writes ++ rest
   pub written : bytes ≡ start ++ entries writes
-  pub within : AreWithin writes
+  pub within : AreWithinStorage writes
   pub fits : length (entries writes) + (journal_start_bytes + long_tag_bytes) ≤ max_journal_bytes
   pub saved : IsSaved Aegis128L st.context key (drop journal_beginning_bytes start) [] (authenticated [] (entries writes))
 
@@ -125,7 +125,7 @@ pub record JournalFinal (old new : State) (mac mac' : List ℕ) (code : ℤ) : T
 
 -- the bytes are those of the writes, as a journal has them
 unfoldable pub HoldsWrites : Writes → List ℕ → Type 0
-HoldsWrites writes bytes = AreWithin writes × (bytes ≡ entries writes)
+HoldsWrites writes bytes = AreWithinStorage writes × (bytes ≡ entries writes)
 
 -- the block of the header of a file that begins with these bytes, if they are as many
 abbrev pub header_block_of : List ℕ → Option (List ℕ)
@@ -133,8 +133,8 @@ header_block_of file = if leb header_block_bytes (length file) then Some (take h
 
 -- what a file that begins with these bytes has as its header
 abbrev pub IsHeaderIn : (variant : Variant) (key file : List ℕ) → Option FileHeader → Type 0
-IsHeaderIn variant key file (Some header) = (header_block_bytes ≤ length file) × HasHeader variant key (take header_block_bytes file) header
-IsHeaderIn variant key file None = (header : FileHeader) → header_block_bytes ≤ length file → HasHeader variant key (take header_block_bytes file) header → ⊥
+IsHeaderIn variant key file (Some header) = (header_block_bytes ≤ length file) × BlockHasHeader variant key (take header_block_bytes file) header
+IsHeaderIn variant key file None = (header : FileHeader) → header_block_bytes ≤ length file → BlockHasHeader variant key (take header_block_bytes file) header → ⊥
 
 -- the writes of a whole journal under the file's key, or none for other bytes
 abbrev pub AreJournaled : (variant : Variant) (key journal : List ℕ) → Option Writes → Type 0
@@ -145,7 +145,7 @@ AreJournaled variant key journal None = (writes : Writes) → IsJournal (journal
 abbrev pub MayBeEmptied : (variant : Variant) (key file journal : List ℕ) → Type 0
 MayBeEmptied variant key file journal =
     (header : Option FileHeader) × (writes : Option Writes) × IsHeaderIn variant key file header × AreJournaled variant key journal writes
-    × IsAccepted variant key (header_block_of file) header writes journal
+    × IsJournalAccepted variant key (header_block_of file) header writes journal
 
 -- The call returns `success` exactly if the journal may be made again, or emptied, unless the variant or the length of the key
 -- is wrong. Then `bytes` becomes the length of its writes if it is whole, and 0 if it is not.

@@ -10,7 +10,7 @@ ghost use Rattle.aegis_base.specs.declared.error.TheConstants.{MAX_AEAD_BYTES};
 ghost use Rattle.aegis.specs.RecordStream.{start_at};
 ghost use Rattle.aegis_c_calls.specs.Private.{code_of};
 ghost use Rattle.aegis_c_calls.specs.Calls.{RecordBegin, RecordBeginOpen, RecordBeginOpenAt, RecordLen, RecordOpen, RecordSeal, RecordSealLast, after_record, state_at};
-ghost use Rattle.aegis_c_calls.specs.Codes.{next_position};
+ghost use Rattle.aegis_c_calls.specs.Codes.{position_of};
 
 use crate::refusal::Refusal;
 use aegis::ERASED;
@@ -39,7 +39,7 @@ fn first(mark: u64, key: &[u8; 32], prefix: &[u8; 24]) -> RecordState
 // Goes on to the record after one of so many bytes.
 fn advance(st: &mut RecordState, bytes: usize)
     requires room { RECORD_BYTES ≤ bytes }
-    requires fits { start_at (next_position st.old) + bytes ≤ MAX_AEAD_BYTES }
+    requires fits { start_at (position_of st.old) + bytes ≤ MAX_AEAD_BYTES }
     ensures { st.new ≡ after_record st.old bytes }
 {
     st.number += 1;

@@ -3,7 +3,7 @@
 ghost use Rattle.std.specs.Prelude.{◌≡◌, ◌+◌, ◌*◌, ◌<◌, ◌≤◌, Err, IfErr, IfOk, List, length, ℕ};
 ghost use Rattle.aegis_base.specs.declared.error.TheConstants.{MAX_AEAD_BYTES};
 ghost use Rattle.aegis.specs.RecordStream.{start_at};
-ghost use Rattle.aegis_files.specs.Opening.{AreContentsFrom, AreFrom, IsFileInPieces, IsFileOf, IsSealedFile, part_of, part_of_contents, pieces_in};
+ghost use Rattle.aegis_files.specs.Opening.{AreContentsFrom, AreFrom, IsFileInPieces, IsFileWithPrefix, IsSealedFile, part_of, part_of_contents, pieces_in};
 ghost use Rattle.aegis.specs.declared.record.error.RecordError.{RecordError};
 ghost use Rattle.aegis.specs.declared.record.version.Version.TheVariants.{Second};
 
@@ -121,7 +121,7 @@ pub fn rekey_file<A: Allocator + Copy>(
     requires { length context.now ≤ MAX_CONTEXT_BYTES }
     ensures rekeyed { IfOk result (λ new_file. (contents : List ℕ)
         × IsSealedFile key.now context.now contents file.now
-        × IsFileOf new_key.now prefix.now context.now contents new_file.items) }
+        × IsFileWithPrefix new_key.now prefix.now context.now contents new_file.items) }
     ensures size { IfOk result (λ new_file. length new_file.items ≡ length file.now) }
     ensures accepted { IfErr result (λ e. (contents : List ℕ)
         → IsSealedFile key.now context.now contents file.now

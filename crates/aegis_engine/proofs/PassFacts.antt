@@ -20,7 +20,7 @@ use Rattle.aegis_base.specs.Variant.{Variant, rate}
 use Rattle.aegis_base.proofs.Bijection.{bit_xor-twice}
 use Rattle.aegis_base.proofs.HeldFacts.{ciphertext-on, stands-block}
 use Rattle.aegis_base.proofs.LaneFacts.{xor-append}
-use Rattle.aegis_engine.specs.Pass.{IsPassed, absorbed, given, sealed}
+use Rattle.aegis_engine.specs.Pass.{IsPassed, absorbed, given, ciphertext_in}
 use Rattle.aegis_engine.specs.declared.pass.Pass.{Pass}
 use Rattle.aegis_engine.specs.declared.pass.Pass.TheVariants.{Seal, Open, Keystream}
 
@@ -53,14 +53,14 @@ length-absorbed Seal old new e = refl
 length-absorbed Open old new e = e
 length-absorbed Keystream old new e = length-replicate (length old) 0
 
-pub length-sealed : (pass : Pass) (old new : List ℕ) → length new ≡ length old → length (sealed pass old new) ≡ length (absorbed pass old new)
+pub length-sealed : (pass : Pass) (old new : List ℕ) → length new ≡ length old → length (ciphertext_in pass old new) ≡ length (absorbed pass old new)
 length-sealed Seal old new e = e
 length-sealed Open old new e = sym e
 length-sealed Keystream old new e = length-zip2 bit_xor old new (sym e) ∙ sym (length-replicate (length old) 0)
 
 -- if a pass has xored a byte with k, the ciphertext there is what it took in, xored with k
 pub sealed-byte : (pass : Pass) (old new : List ℕ) (i k : ℕ) → length new ≡ length old → i < length old
-    → slice_index new i ≡ bit_xor (slice_index old i) k → slice_index (sealed pass old new) i ≡ bit_xor (slice_index (absorbed pass old new) i) k
+    → slice_index new i ≡ bit_xor (slice_index old i) k → slice_index (ciphertext_in pass old new) i ≡ bit_xor (slice_index (absorbed pass old new) i) k
 sealed-byte Seal old new i k long low e = e
 sealed-byte Open old new i k long low e = sym (ap (λ (b : ℕ). bit_xor b k) e ∙ bit_xor-twice (slice_index old i) k)
 sealed-byte Keystream old new i k long low e =
@@ -74,7 +74,7 @@ absorbed-append Seal a b c d = refl
 absorbed-append Open a b c d = refl
 absorbed-append Keystream a b c d = rw length-append (sym (replicate-append-replicate (length a) (length b) 0))
 
-pub sealed-append : (pass : Pass) (a b c d : List ℕ) → length c ≡ length a → sealed pass (a ++ b) (c ++ d) ≡ sealed pass a c ++ sealed pass b d
+pub sealed-append : (pass : Pass) (a b c d : List ℕ) → length c ≡ length a → ciphertext_in pass (a ++ b) (c ++ d) ≡ ciphertext_in pass a c ++ ciphertext_in pass b d
 sealed-append Seal a b c d e = refl
 sealed-append Open a b c d e = refl
 sealed-append Keystream a b c d e = xor-append a c b d (sym e)
@@ -101,14 +101,14 @@ module _ (variant : Variant) (lane : ℕ → List (List ℕ)) (updates : ℕ) (b
     (count : IsLaneCount variant.lanes) (within : t % rate variant + n ≤ rate variant)
     (xored : (k : ℕ) → k < n → slice_index new (a + k) ≡ bit_xor (slice_index old (a + k)) (keystream_byte variant lane (t % rate variant + k))) where
   encrypts-at : Encrypts variant (held_by variant lane updates block ad_bytes t) (absorbed pass (bytes_at old a n) (bytes_at new a n))
-      (sealed pass (bytes_at old a n) (bytes_at new a n))
+      (ciphertext_in pass (bytes_at old a n) (bytes_at new a n))
   encrypts-at key nonce ad m is =
       let source : List ℕ = bytes_at old a n in
       let out : List ℕ = bytes_at new a n in
       let size : length source ≡ n = length-bytes_at old a n in
       let same : length out ≡ length source = length-bytes_at new a n ∙ sym size in
       let long : length (absorbed pass source out) ≡ n = length-absorbed pass source out same ∙ size in
-      ciphertext-on variant lane updates block ad_bytes t key nonce ad m (absorbed pass source out) is (sealed pass source out) count
+      ciphertext-on variant lane updates block ad_bytes t key nonce ad m (absorbed pass source out) is (ciphertext_in pass source out) count
       (length-sealed pass source out same) (rw long within)
       (λ i low.
       let under : i < n = rw long at low in

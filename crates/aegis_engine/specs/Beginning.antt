@@ -12,5 +12,5 @@ module _ {S R : Type 0} {n : ℕ} {L : lane_state.Ghosts S R} {r : row.Ghosts R}
   abbrev pub filled : Decryptor S n R L r → ℕ
   filled d = d.context.message_bytes
 
-  abbrev pub beginning : Decryptor S n R L r → List ℕ
-  beginning d = take d.context.message_bytes d.dst.now
+  abbrev pub decrypted : Decryptor S n R L r → List ℕ
+  decrypted d = take d.context.message_bytes d.dst.now

@@ -13,7 +13,7 @@ pub record AnswersChunk {A : Type 0} (message_bytes room : ℕ) (result : Result
   pub accepted : IsOk result ↔ ((message_bytes ≤ room) × (message_bytes ≤ max_aead_bytes))
 
 -- A destination was `old` with a message of `before` bytes, and is `new` with one of `after` bytes. Nothing else has changed.
-pub record Appends (old : List ℕ) (before : ℕ) (new : List ℕ) (after : ℕ) : Type 0 where
+pub record AppendsChunk (old : List ℕ) (before : ℕ) (new : List ℕ) (after : ℕ) : Type 0 where
   pub grows : before ≤ after
   pub room : length new ≡ length old
   -- the message so far, and what lies after it

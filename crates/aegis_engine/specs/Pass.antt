@@ -14,10 +14,10 @@ absorbed Open old new = new
 absorbed Keystream old new = replicate (length old) 0
 
 -- the ciphertext of what the lanes take in; that of zeros is the keystream
-abbrev pub sealed : Pass → List ℕ → List ℕ → List ℕ
-sealed Seal old new = new
-sealed Open old new = old
-sealed Keystream old new = xor old new
+abbrev pub ciphertext_in : Pass → List ℕ → List ℕ → List ℕ
+ciphertext_in Seal old new = new
+ciphertext_in Open old new = old
+ciphertext_in Keystream old new = xor old new
 
 -- the bytes that a pass processes: those of `source`, or if there is none, those of the buffer itself
 abbrev pub given : Option (Bor (List ℕ)) → List ℕ → List ℕ
@@ -27,4 +27,4 @@ given (Some source) buffer = source.now
 -- from `old` to `new`, a pass has processed `source`, which became `out`
 pub record IsPassed (variant : Variant) (old new : Held) (pass : Pass) (source out : List ℕ) : Type 0 where
   pub takes : Takes variant old new (absorbed pass source out)
-  pub encrypts : Encrypts variant old (absorbed pass source out) (sealed pass source out)
+  pub encrypts : Encrypts variant old (absorbed pass source out) (ciphertext_in pass source out)

@@ -6,10 +6,10 @@
 ghost use Rattle.std.specs.Prelude.{◌≡◌, ⊤, ◌≤◌, ◌⊎◌, ◌++◌, IfErr, IfOk, IfSome, IsOk, List, MatchResult, OnErr, OnOk, Some, codes, drop, false, length, replicate, take, true, ℕ, []};
 ghost use Rattle.aegis_base.specs.Lane.{IsTagLength};
 ghost use Rattle.std.specs.Borrow.{Array, LendsIfOk, sem, u8};
-ghost use Rattle.aegis_base.specs.Chunks.{OpensChunks, accepted, erased, joined};
+ghost use Rattle.aegis_base.specs.Chunks.{OpensChunks, accepted, zeroed, joined};
 ghost use Rattle.aegis_base.specs.Message.{Opens, ciphertext, seal, keystream, tag, xor_keystream, erased_byte};
 ghost use Rattle.aegis_base.specs.Context.{Stands};
-ghost use Rattle.aegis_engine.specs.Beginning.{beginning, held, filled};
+ghost use Rattle.aegis_engine.specs.Beginning.{decrypted, held, filled};
 ghost use Rattle.aegis_base.specs.Variant.{cipher_name, key_length};
 ghost use Rattle.aegis_engine.specs.Pass.{given};
 
@@ -434,8 +434,8 @@ impl<S: LaneState, U, const KEY_BYTES: usize, const TAG_BYTES: usize> Cipher<
         ensures unchanged { result.dst.now ≡ plaintext.old }
         ensures filled { filled result ≡ 0 }
         ensures stands { Stands S.VARIANT (held result) self.now.key self.now.nonce ad.now
-            (beginning result) }
-        ensures empty { ciphertext S.VARIANT self.now.key self.now.nonce ad.now (beginning result)
+            (decrypted result) }
+        ensures empty { ciphertext S.VARIANT self.now.key self.now.nonce ad.now (decrypted result)
             ≡ [] }
     {
         Decryptor {
@@ -488,7 +488,7 @@ impl<S: LaneState, U, const KEY_BYTES: usize, const TAG_BYTES: usize> Cipher<
         ensures within { result.filled ≤ length result.dst.now }
         ensures filled { result.filled ≡ length (accepted (length dst.old) chunks.now) }
         ensures erased { result.accepted ≡ false
-            → result.dst.now ≡ erased result.filled result.dst.now }
+            → result.dst.now ≡ zeroed result.filled result.dst.now }
         ensures rest { drop result.filled result.dst.now ≡ drop result.filled dst.old }
         ensures opened { result.accepted ≡ true
             → OpensChunks S.VARIANT TAG_BYTES self.now ad.now (length dst.old) chunks.now
@@ -575,7 +575,7 @@ impl<S: LaneState, U, const KEY_BYTES: usize, const TAG_BYTES: usize> Cipher<
         ensures rest { drop (length (accepted (length dst.old) chunks.now)) dst.new
             ≡ drop (length (accepted (length dst.old) chunks.now)) dst.old }
         ensures erased { OnErr result
-            (dst.new ≡ erased (length (accepted (length dst.old) chunks.now)) dst.old) }
+            (dst.new ≡ zeroed (length (accepted (length dst.old) chunks.now)) dst.old) }
         ensures error { IfErr result (λ e. e ≡ Error.InvalidTag) }
     {
         let (filled, is_right) = self.open_chunks_unchecked(ad, chunks, tag, dst);

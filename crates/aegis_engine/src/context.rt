@@ -11,7 +11,7 @@ ghost use Rattle.aegis_base.specs.Message.{Opens, after_all, block_count, cipher
 ghost use Rattle.aegis_base.specs.Context.{Encrypts, IsAccepted, IsAlong, IsTagged, Stands, Takes, held_by};
 ghost use Rattle.aegis_base.specs.Private.{HasFrom};
 ghost use Rattle.aegis_base.specs.Variant.{key_length};
-ghost use Rattle.aegis_engine.specs.Pass.{absorbed, given, sealed};
+ghost use Rattle.aegis_engine.specs.Pass.{absorbed, given, ciphertext_in};
 
 use crate::pass::{
     Pass, RateBlock, ZEROS, absorb_part, absorb_whole, copy_part, fill_part, pass_part, pass_whole,
@@ -122,7 +122,7 @@ pub fn pass_bytes<S: LaneState>(
     ensures written { (ad_bytes : ℕ) → Encrypts S.VARIANT
         (held_by S.VARIANT (S.lane state) (S.updates state) block.old ad_bytes total)
         (absorbed pass (given source.entry mc.old) mc.new)
-        (sealed pass (given source.entry mc.old) mc.new) }
+        (ciphertext_in pass (given source.entry mc.old) mc.new) }
     ensures few { S.updates result ≤ S.updates state + length mc.old }
 {
     let first = filling::<S>(total, mc.len());
@@ -257,7 +257,7 @@ impl<S: LaneState> Context<S> {
             (absorbed pass (given source.entry mc.old) mc.new) }
         ensures written { Encrypts S.VARIANT self.old
             (absorbed pass (given source.entry mc.old) mc.new)
-            (sealed pass (given source.entry mc.old) mc.new) }
+            (ciphertext_in pass (given source.entry mc.old) mc.new) }
         ensures ad_bytes { self.new.ad_bytes ≡ self.old.ad_bytes }
         ensures length { self.new.message_bytes ≡ self.old.message_bytes + length mc.old }
     {

@@ -1,13 +1,13 @@
 //! Decryptors: opening a ciphertext in chunks.
 
 ghost use Rattle.std.specs.Prelude.{◌≡◌, ℕ, ◌+◌, ◌<◌, ◌≤◌, ◌⊎◌, ◌↔◌, ◌++◌, ◌||◌, IfErr, IfOk, IsOk, IsTrue, List, MatchResult, OnErr, OnOk, Some, [], codes, drop, length, nat_eq, take, true, false};
-ghost use Rattle.aegis_base.specs.Chunks.{erased};
+ghost use Rattle.aegis_base.specs.Chunks.{zeroed};
 ghost use Rattle.std.specs.Borrow.{Array, LendsIfOk, sem, u8};
 ghost use Rattle.aegis_base.specs.declared.error.TheConstants.{MAX_AEAD_BYTES};
 ghost use Rattle.aegis_base.specs.Message.{Opens, ciphertext, tag as tag_of};
 ghost use Rattle.aegis_base.specs.Variant.{module_name};
 ghost use Rattle.aegis_base.specs.Context.{Continues, Decrypts, IsAccepted, IsTagged, Stands};
-ghost use Rattle.aegis_engine.specs.Chunk.{AnswersChunk, Appends};
+ghost use Rattle.aegis_engine.specs.Chunk.{AnswersChunk, AppendsChunk};
 
 use crate::context::Context;
 use crate::destination::{Checked, accepted_len, accepted_message, erase, erase_unless};
@@ -33,7 +33,7 @@ impl<S: LaneState, const TAG_BYTES: usize> Drop for Decryptor<'_, S, TAG_BYTES> 
     ghost use Rattle.aegis_engine.specs.Beginning.{filled};
 
     fn drop(self)
-        ensures { self.exit.0.now ≡ erased (filled self.entry) self.entry.dst.now }
+        ensures { self.exit.0.now ≡ zeroed (filled self.entry) self.entry.dst.now }
     {
         let Decryptor { dst, context } = self;
         erase(dst, context.message_bytes() as usize);
@@ -50,7 +50,7 @@ impl<S: LaneState, const TAG_BYTES: usize> fmt::Debug for Decryptor<'_, S, TAG_B
 }
 
 impl<'a, S: LaneState, const TAG_BYTES: usize> Decryptor<'a, S, TAG_BYTES> {
-    ghost use Rattle.aegis_engine.specs.Beginning.{beginning, filled, held};
+    ghost use Rattle.aegis_engine.specs.Beginning.{decrypted, filled, held};
 
     /// Opens the next chunk of the ciphertext, and writes it to the destination after the previous chunks.
     ///
@@ -63,12 +63,12 @@ impl<'a, S: LaneState, const TAG_BYTES: usize> Decryptor<'a, S, TAG_BYTES> {
         ensures answer { AnswersChunk (filled self.old + length chunk.now)
             (length self.old.dst.now) result }
         ensures stands { Continues S.VARIANT
-            (held self.old) (beginning self.old) (held self.new) (beginning self.new) }
+            (held self.old) (decrypted self.old) (held self.new) (decrypted self.new) }
         ensures ciphertext { OnOk result
-            (Decrypts S.VARIANT (held self.old) (beginning self.old) chunk.now
-            (beginning self.new)) }
+            (Decrypts S.VARIANT (held self.old) (decrypted self.old) chunk.now
+            (decrypted self.new)) }
         ensures filled { OnOk result (filled self.new ≡ filled self.old + length chunk.now) }
-        ensures appends { Appends self.old.dst.now (filled self.old)
+        ensures appends { AppendsChunk self.old.dst.now (filled self.old)
             self.new.dst.now (filled self.new) }
         ensures unchanged { OnErr result ((self.new.dst.now ≡ self.old.dst.now)
             × (held self.new ≡ held self.old)) }
@@ -84,13 +84,13 @@ impl<'a, S: LaneState, const TAG_BYTES: usize> Decryptor<'a, S, TAG_BYTES> {
         ensures within { result.filled ≤ length result.dst.now }
         ensures kept { result.accepted ≡ true → result.dst.now ≡ self.entry.dst.now }
         ensures erased { result.accepted ≡ false
-            → result.dst.now ≡ erased result.filled result.dst.now }
+            → result.dst.now ≡ zeroed result.filled result.dst.now }
         ensures rest { drop result.filled result.dst.now
             ≡ drop (filled self.entry) self.entry.dst.now }
         ensures tag { IsTagged S.VARIANT TAG_BYTES
-            (held self.entry) (beginning self.entry) tag.now (result.accepted ≡ true) }
+            (held self.entry) (decrypted self.entry) tag.now (result.accepted ≡ true) }
         ensures accepted { IsAccepted S.VARIANT TAG_BYTES
-            (held self.entry) (beginning self.entry) tag.now (result.accepted ≡ true) }
+            (held self.entry) (decrypted self.entry) tag.now (result.accepted ≡ true) }
     {
         let Decryptor { dst, context } = self;
         let accepted = context.has_tag(tag);
@@ -110,13 +110,13 @@ impl<'a, S: LaneState, const TAG_BYTES: usize> Decryptor<'a, S, TAG_BYTES> {
             (λ w. w ++ drop (filled self.entry) self.entry.dst.now)
             (erased (filled self.entry) self.entry.dst.now)) }
         ensures cases { MatchResult result
-            (λ message. message.now ≡ beginning self.entry)
+            (λ message. message.now ≡ decrypted self.entry)
             (λ e. e ≡ Error.InvalidTag) }
         ensures place { IfOk result (λ message. message.ref_ptr ≡ self.entry.dst.ref_ptr) }
         ensures tag { IsTagged S.VARIANT TAG_BYTES
-            (held self.entry) (beginning self.entry) tag.now (IsOk result) }
+            (held self.entry) (decrypted self.entry) tag.now (IsOk result) }
         ensures accepted { IsAccepted S.VARIANT TAG_BYTES
-            (held self.entry) (beginning self.entry) tag.now (IsOk result) }
+            (held self.entry) (decrypted self.entry) tag.now (IsOk result) }
     {
         accepted_message(self.check_tag(tag))
     }
@@ -128,16 +128,16 @@ impl<'a, S: LaneState, const TAG_BYTES: usize> Decryptor<'a, S, TAG_BYTES> {
         ensures filled { OnOk result (result ≡ Ok (filled self.entry)) }
         ensures message { OnOk result (self.exit.0.now ≡ self.entry.dst.now) }
         ensures erased { OnErr result (self.exit.0.now
-            ≡ erased (filled self.entry) self.entry.dst.now) }
+            ≡ zeroed (filled self.entry) self.entry.dst.now) }
         ensures error { IfErr result (λ e. e ≡ Error.InvalidTag) }
         ensures tag { IsTagged S.VARIANT TAG_BYTES
-            (held self.entry) (beginning self.entry) tag.now (IsOk result) }
+            (held self.entry) (decrypted self.entry) tag.now (IsOk result) }
         ensures accepted { IsAccepted S.VARIANT TAG_BYTES
-            (held self.entry) (beginning self.entry) tag.now (IsOk result) }
+            (held self.entry) (decrypted self.entry) tag.now (IsOk result) }
         ensures only { (key nonce ad m : List ℕ)
             → ciphertext S.VARIANT key nonce ad m
-            ≡ ciphertext S.VARIANT key nonce ad (beginning self.entry)
-            → m ≡ beginning self.entry }
+            ≡ ciphertext S.VARIANT key nonce ad (decrypted self.entry)
+            → m ≡ decrypted self.entry }
     {
         let Decryptor { dst, context } = self;
         accepted_len(dst, context.message_bytes() as usize, context.has_tag(tag))

@@ -2,7 +2,7 @@
 
 ghost use Rattle.std.specs.Prelude.{◌≡◌, ℕ, ◌≤◌, ◌++◌, IfErr, MatchResult, OnErr, OnOk, drop, false, length, take, true};
 ghost use Rattle.std.specs.Borrow.{Array, LendsIfOk, sem, u8};
-ghost use Rattle.aegis_base.specs.Chunks.{erased};
+ghost use Rattle.aegis_base.specs.Chunks.{zeroed};
 
 use aegis_base::Error;
 
@@ -18,7 +18,7 @@ pub struct Checked<'a> {
 pub fn accepted_message<'a>(checked: Checked<'a>) -> Result<&'a mut [u8], Error>
     requires within { checked.filled ≤ length checked.dst.now }
     requires erased { checked.accepted ≡ false
-        → checked.dst.now ≡ erased checked.filled checked.dst.now }
+        → checked.dst.now ≡ zeroed checked.filled checked.dst.now }
     ensures* writes_back { sem 𝓛 (LendsIfOk (Array u8 0) (Array u8 0) checked.entry.dst result
         (λ w. w ++ drop checked.entry.filled checked.entry.dst.now)
         (erased checked.entry.filled checked.entry.dst.now)) }
@@ -43,7 +43,7 @@ pub fn accepted_message<'a>(checked: Checked<'a>) -> Result<&'a mut [u8], Error>
 /// Overwrites the first `filled` bytes with zeros.
 pub fn erase(dst: &mut [u8], filled: usize)
     requires { filled ≤ length dst.old }
-    ensures { dst.new ≡ erased filled dst.old }
+    ensures { dst.new ≡ zeroed filled dst.old }
 {
     dst[..filled].fill(0);
 }
@@ -53,7 +53,7 @@ pub fn erase(dst: &mut [u8], filled: usize)
 pub fn erase_unless(dst: &mut [u8], filled: usize, accepted: bool)
     requires { filled ≤ length dst.old }
     ensures kept { accepted ≡ true → dst.new ≡ dst.old }
-    ensures erased { accepted ≡ false → dst.new ≡ erased filled dst.new }
+    ensures erased { accepted ≡ false → dst.new ≡ zeroed filled dst.new }
     ensures rest { drop filled dst.new ≡ drop filled dst.old }
 {
     if !accepted {
@@ -67,7 +67,7 @@ pub fn accepted_len(dst: &mut [u8], filled: usize, accepted: bool) -> Result<usi
     requires { filled ≤ length dst.old }
     ensures filled { OnOk result (result ≡ Ok filled) }
     ensures message { OnOk result (dst.new ≡ dst.old) }
-    ensures erased { OnErr result (dst.new ≡ erased filled dst.old) }
+    ensures erased { OnErr result (dst.new ≡ zeroed filled dst.old) }
     ensures error { IfErr result (λ e. e ≡ Error.InvalidTag) }
     ensures accepted { MatchResult result (λ _. accepted ≡ true) (λ _. accepted ≡ false) }
 {

@@ -5,8 +5,8 @@ ghost use Rattle.std.specs.Prelude.{◌≡◌, ℕ, ◌+◌, ◌≤◌, List, On
 ghost use Rattle.aegis_base.specs.Chunks.{accepted_after};
 ghost use Rattle.aegis_base.specs.Message.{ciphertext};
 ghost use Rattle.aegis_base.specs.Context.{Continues, Decrypts, Stands};
-ghost use Rattle.aegis_engine.specs.Chunk.{AnswersChunk, Appends};
-ghost use Rattle.aegis_engine.specs.Private.{Fits};
+ghost use Rattle.aegis_engine.specs.Chunk.{AnswersChunk, AppendsChunk};
+ghost use Rattle.aegis_engine.specs.Private.{FitsRoom};
 
 use crate::context::Context;
 use crate::pass::Pass;
@@ -17,7 +17,7 @@ impl<S: LaneState> Context<S> {
     /// the chunk has no room there, and otherwise [`Error::MessageTooLong`] if the message would have more than
     /// [`MAX_AEAD_BYTES`]. After an error nothing has changed.
     pub fn open_chunk(&mut self, dst: &mut [u8], chunk: &[u8]) -> Result<(), Error>
-        requires { Fits self.old.message_bytes (length dst.old) }
+        requires { FitsRoom self.old.message_bytes (length dst.old) }
         ensures answer { AnswersChunk (self.old.message_bytes + length chunk.now)
             (length dst.old) result }
         ensures stands { Continues S.VARIANT self.old (take self.old.message_bytes dst.old)
@@ -27,8 +27,8 @@ impl<S: LaneState> Context<S> {
             (take self.new.message_bytes dst.new)) }
         ensures message_bytes { OnOk result
             (self.new.message_bytes ≡ self.old.message_bytes + length chunk.now) }
-        ensures fits { Fits self.new.message_bytes (length dst.new) }
-        ensures appends { Appends dst.old self.old.message_bytes dst.new self.new.message_bytes }
+        ensures fits { FitsRoom self.new.message_bytes (length dst.new) }
+        ensures appends { AppendsChunk dst.old self.old.message_bytes dst.new self.new.message_bytes }
         ensures unchanged { OnErr result ((self.new ≡ self.old) × (dst.new ≡ dst.old)) }
     {
         let so_far = self.message_bytes() as usize;
@@ -43,7 +43,7 @@ impl<S: LaneState> Context<S> {
 
     /// Opens chunks in order. A chunk that `open_chunk` refuses is left out whole.
     pub fn open_all(&mut self, dst: &mut [u8], chunks: &[&[u8]])
-        requires { Fits self.old.message_bytes (length dst.old) }
+        requires { FitsRoom self.old.message_bytes (length dst.old) }
         ensures stands { Continues S.VARIANT self.old (take self.old.message_bytes dst.old)
             self.new (take self.new.message_bytes dst.new) }
         ensures ciphertext { (key nonce ad : List ℕ)
@@ -53,7 +53,7 @@ impl<S: LaneState> Context<S> {
             (ciphertext S.VARIANT key nonce ad (take self.old.message_bytes dst.old)) chunks.now }
         ensures message_bytes { (kept : List ℕ) → length kept ≡ self.old.message_bytes
             → self.new.message_bytes ≡ length (accepted_after (length dst.old) kept chunks.now) }
-        ensures fits { Fits self.new.message_bytes (length dst.new) }
+        ensures fits { FitsRoom self.new.message_bytes (length dst.new) }
         ensures rest { (n : ℕ) → self.new.message_bytes ≤ n → drop n dst.new ≡ drop n dst.old }
     {
         for chunk in chunks {

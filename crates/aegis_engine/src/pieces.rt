@@ -6,7 +6,7 @@
 ghost use Rattle.std.specs.Prelude.{◌≡◌, ◌+◌, ◌^◌, ◌<◌, OnOk, [], length};
 ghost use Rattle.aegis_base.specs.Chunks.{joined};
 ghost use Rattle.aegis_base.specs.Context.{Encrypts, Takes};
-ghost use Rattle.aegis_engine.specs.Pass.{absorbed, sealed};
+ghost use Rattle.aegis_engine.specs.Pass.{absorbed, ciphertext_in};
 
 use crate::context::Context;
 use crate::pass::Pass;
@@ -49,7 +49,8 @@ impl<S: LaneState> Context<S> {
         ensures taken { OnOk result
             (Takes S.VARIANT self.old self.new (absorbed pass source.now out.new.items)) }
         ensures written { OnOk result (Encrypts S.VARIANT self.old
-            (absorbed pass source.now out.new.items) (sealed pass source.now out.new.items)) }
+            (absorbed pass source.now out.new.items)
+            (ciphertext_in pass source.now out.new.items)) }
         ensures message_bytes { OnOk result
             (self.new.message_bytes ≡ self.old.message_bytes + length source.now) }
         ensures length { OnOk result (length out.new.items ≡ length source.now) }

@@ -11,7 +11,7 @@ ghost use Rattle.aegis_base.specs.Mac.{mac};
 ghost use Rattle.aegis_base.specs.Message.{Opens, block_count, ciphertext, tag as tag_of};
 ghost use Rattle.aegis_base.specs.Context.{Stands, held_by};
 ghost use Rattle.aegis_base.specs.Variant.{key_length};
-ghost use Rattle.aegis_engine.specs.Pass.{absorbed, given, sealed};
+ghost use Rattle.aegis_engine.specs.Pass.{absorbed, given, ciphertext_in};
 ghost use Rattle.aegis_engine.specs.Saved.{HasChecked, HasSealed, HasTaken, IsSaved};
 
 use crate::context::{Context, absorb_bytes, pass_bytes};
@@ -132,7 +132,7 @@ impl SavedContext {
             (absorbed pass (given source.entry mc.old) mc.new) }
         ensures written { HasSealed S.VARIANT self.old
             (absorbed pass (given source.entry mc.old) mc.new)
-            (sealed pass (given source.entry mc.old) mc.new) }
+            (ciphertext_in pass (given source.entry mc.old) mc.new) }
         ensures associated_data { self.new.ad_bytes ≡ self.old.ad_bytes }
         ensures counted { self.new.message_bytes ≡ self.old.message_bytes + length mc.old }
     {

@@ -6,7 +6,7 @@ ghost use Rattle.aegis_aes.specs.Lanes.{xor_lanes};
 ghost use Rattle.aegis_base.specs.Variant.{rate};
 ghost use Rattle.aegis_base.specs.Lane.{IsTagLength, lane_tag};
 ghost use Rattle.aegis_base.specs.Mac.{alone, first_folded, mac_tag};
-ghost use Rattle.aegis_base.specs.Message.{after};
+ghost use Rattle.aegis_base.specs.Message.{lane_after};
 
 use crate::pass::{RateBlock, ZEROS, copy_part};
 use aegis_aes::{AesBlock, Row};
@@ -117,7 +117,7 @@ fn folded<S: LaneState>(end: S, tags: &RateBlock, from: usize, turns: usize) -> 
     ensures first { (x : List ℕ)
         → ((i : ℕ) → i < turns * rate (alone S.VARIANT)
         → slice_index x i ≡ slice_index tags.now (from + i))
-        → S.lane result 0 ≡ after (alone S.VARIANT) (S.lane end 0) 0 x turns }
+        → S.lane result 0 ≡ lane_after (alone S.VARIANT) (S.lane end 0) 0 x turns }
     ensures updates { S.updates result ≡ S.updates end + turns }
 {
     let rate = rate_of_one::<S>();

@@ -4,7 +4,7 @@ use Rattle.std.proofs.lemmas.List.{length-append}
 use Rattle.std.specs.List.{concat}
 use Rattle.aegis.specs.declared.record.position.RecordPosition.{RecordPosition}
 use Rattle.aegis.specs.declared.record.version.Version.TheVariants.{Second}
-use Rattle.aegis.specs.Calls.{Progress, after, last_flag, progress_at, record_of, start_of}
+use Rattle.aegis.specs.Calls.{Progress, progress_after, last_flag, progress_at, record_of, start_of}
 use Rattle.aegis.specs.RecordStream.{AreRecords, AreWithin, first_position, frames, frames_length, header, limit, position_after, sealed, start_at}
 use Rattle.aegis.proofs.Frames.{frames_push, position_append, version_after, within_append}
 use Rattle.aegis.proofs.Lengths.{length-frames, start_after}
@@ -24,7 +24,7 @@ unfolding frames
 reaches_none key prefix context at p is = record { reached = is; some = λ no. absurd cc; within = tt; are = refl }
 
 pub reaches_more : (key prefix context : List ℕ) (at : RecordPosition) (p q : Progress) (is_last : Bool) (messages : List (List ℕ)) (bytes m : List ℕ)
-    → Reaches key prefix context at p false messages bytes → q ≡ after p is_last m → length m ≤ limit p.position.version
+    → Reaches key prefix context at p false messages bytes → q ≡ progress_after p is_last m → length m ≤ limit p.position.version
     → Reaches key prefix context at q is_last (messages ++ m ∷ []) (bytes ++ record_of p (last_flag is_last) m)
 reaches_more key prefix context at p q is_last messages bytes m r next low =
     grind (arith, version_after, position_append, length-append, within_append, frames_push)

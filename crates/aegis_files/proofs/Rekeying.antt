@@ -8,11 +8,11 @@ use Rattle.aegis_base.specs.declared.error.TheConstants.{MAX_AEAD_BYTES}
 use Rattle.aegis.specs.declared.record.error.RecordError.TheVariants as errors
 use Rattle.aegis.specs.declared.record.length.TheConstants.{RECORD_BYTES}
 use Rattle.aegis.specs.declared.record.version.Version.TheVariants.{Second}
-use Rattle.aegis.specs.Calls.{Progress, after, last_flag, progress_at, record_of, start_of}
+use Rattle.aegis.specs.Calls.{Progress, progress_after, last_flag, progress_at, record_of, start_of}
 use Rattle.aegis.specs.RecordStream.{AreWithin, beginning, first_position, header, limit, sealed}
 use Rattle.aegis_files.specs.declared.error.FileError.{FileError}
 use Rattle.aegis_files.specs.declared.error.FileError.TheVariants.{Stream}
-use Rattle.aegis_files.specs.Opening.{AreFrom, AreInFile, IsFileOf, IsRekeyed, IsSealedFile, IsWriteError, RefusesFile, RekeysBeginning}
+use Rattle.aegis_files.specs.Opening.{AreFrom, AreInFile, IsFileWithPrefix, IsRekeyed, IsSealedFile, IsWriteError, RefusesFile, RekeysBeginning}
 use Rattle.aegis_files.specs.Private.{FailsNext, LeavesSome, ReadsNext}
 use Rattle.aegis_files.proofs.Files.{refuses_file, refuses_more, under, known_head, no_head, under_err}
 use Rattle.aegis_files.proofs.Pieces.{at_end, read_some, some_with}
@@ -63,7 +63,7 @@ opened_next p p' q last key prefix new_key new_prefix context stream left left' 
     reaches_more key prefix context (first_position Second) p p' last s.messages s.taken m s.opened next.progress next.within
 
 sealed_next : (p p' q q' : Progress) (last : Bool) (key prefix new_key new_prefix context : List ℕ) (stream left left' old new : Option (List ℕ)) (pending m : List ℕ)
-    → (s : RekeysSome p q key prefix new_key new_prefix context stream left old new pending) → ReadsNext p p' left left' last m → q' ≡ after q last m
+    → (s : RekeysSome p q key prefix new_key new_prefix context stream left old new pending) → ReadsNext p p' left left' last m → q' ≡ progress_after q last m
     → Reaches new_key new_prefix context (first_position Second) q' last (s.messages ++ m ∷ []) (s.made ++ record_of q (last_flag last) m)
 sealed_next p p' q q' last key prefix new_key new_prefix context stream left left' old new pending m s next is =
     reaches_more new_key new_prefix context (first_position Second) q q' last s.messages s.made m s.sealed is
@@ -77,7 +77,7 @@ joined new_prefix made sent pending bytes out all is = grind (arith, append_asso
 
 pub rekeys_more : (p p' q q' : Progress) (key prefix new_key new_prefix context : List ℕ) (stream left left' old new new' : Option (List ℕ)) (pending m out none : List ℕ)
     → RekeysSome p q key prefix new_key new_prefix context stream left old new pending → ReadsNext p p' left left' false m
-    → q' ≡ after q false m → out ≡ pending ++ record_of q 0 m → Appends new new' out → none ≡ []
+    → q' ≡ progress_after q false m → out ≡ pending ++ record_of q 0 m → Appends new new' out → none ≡ []
     → RekeysSome p' q' key prefix new_key new_prefix context stream left' old new' none
 rekeys_more p p' q q' key prefix new_key new_prefix context stream left left' old new new' pending m out none s next is out_is written cleared = record {
   messages = s.messages ++ m ∷ [];
@@ -97,7 +97,7 @@ rekeys_more p p' q q' key prefix new_key new_prefix context stream left left' ol
 whole_read : (p q p' : Progress) (key prefix new_key new_prefix context f : List ℕ) (stream left left' old new : Option (List ℕ)) (pending m rest : List ℕ)
     → (s : RekeysSome p q key prefix new_key new_prefix context stream left old new pending) → ReadsNext p p' left left' true m → IsAtEnd left'
     → f ≡ (s.taken ++ record_of p 1 m) ++ rest → left' ≡ Some rest
-    → IsFileOf key prefix context (concat (s.messages ++ m ∷ [])) (prefix ++ (header Second ++ f))
+    → IsFileWithPrefix key prefix context (concat (s.messages ++ m ∷ [])) (prefix ++ (header Second ++ f))
 whole_read p q p' key prefix new_key new_prefix context f stream left left' old new pending m rest s next end is known = record {
   messages = s.messages ++ m ∷ [];
   stream = header Second ++ f;
@@ -125,7 +125,7 @@ rekeys_end p p' q key prefix new_key new_prefix context stream left left' old ne
         new = record {
           messages = ms;
           stream = header Second ++ made;
-          are = reaches_stream new_key new_prefix context (after q true m) ms made sealed_all;
+          are = reaches_stream new_key new_prefix context (progress_after q true m) ms made sealed_all;
           contents_is = refl;
           file_is = refl;
         };
@@ -168,8 +168,8 @@ rekeys_end p p' q key prefix new_key new_prefix context stream left left' old ne
     opened_all : Reaches key prefix context (first_position Second) p' true ms taken
     opened_all = opened_next p p' q true key prefix new_key new_prefix context stream left left' old new pending m s next
 
-    sealed_all : Reaches new_key new_prefix context (first_position Second) (after q true m) true ms made
-    sealed_all = sealed_next p p' q (after q true m) true key prefix new_key new_prefix context stream left left' old new pending m s next refl
+    sealed_all : Reaches new_key new_prefix context (first_position Second) (progress_after q true m) true ms made
+    sealed_all = sealed_next p p' q (progress_after q true m) true key prefix new_key new_prefix context stream left left' old new pending m s next refl
 
     same_size : length taken ≡ length made
     same_size =
@@ -177,8 +177,8 @@ rekeys_end p p' q key prefix new_key new_prefix context stream left left' old ne
           arith,
           reaches_size key prefix context (first_position Second) p' true ms taken opened_all,
           reaches_start key prefix context (first_position Second) p' true ms taken opened_all,
-          reaches_size new_key new_prefix context (first_position Second) (after q true m) true ms made sealed_all,
-          reaches_start new_key new_prefix context (first_position Second) (after q true m) true ms made sealed_all,
+          reaches_size new_key new_prefix context (first_position Second) (progress_after q true m) true ms made sealed_all,
+          reaches_start new_key new_prefix context (first_position Second) (progress_after q true m) true ms made sealed_all,
         )
 
 -- ---- it fails
@@ -259,7 +259,7 @@ pub stops_writing : (p p' q : Progress) (last : Bool) (key prefix new_key new_pr
 stops_writing p p' q last key prefix new_key new_prefix context stream left left' old new new' pending m out n e long new_long s next end out_is written why =
     let ms : List (List ℕ) = s.messages ++ m ∷ [] in
     let taken : List ℕ = s.taken ++ record_of p (last_flag last) m in
-    let made = sealed_next p p' q (after q last m) last key prefix new_key new_prefix context stream left left' old new pending m s next refl in
+    let made = sealed_next p p' q (progress_after q last m) last key prefix new_key new_prefix context stream left left' old new pending m s next refl in
     let read = opened_next p p' q last key prefix new_key new_prefix context stream left left' old new pending m s next in
     read_some stream left' taken _ (Consumes-trans stream left left' s.taken (record_of p (last_flag last) m) s.read next.read) (λ f rest known is left_is.
     stops key new_key new_prefix context _ (s.sent ++ take n out) (drop n out) ms (last_flag last) old new' e new_long made.within

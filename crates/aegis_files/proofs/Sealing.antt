@@ -14,7 +14,7 @@ use Rattle.aegis.proofs.Stepwise.{length-record, sealed_one_stream}
 use Rattle.aegis.specs.declared.record.length.TheConstants.{RECORD_BYTES}
 use Rattle.aegis.specs.declared.record.position.RecordPosition.{RecordPosition}
 use Rattle.aegis.specs.declared.record.version.Version.TheVariants.{Second}
-use Rattle.aegis.specs.Calls.{Progress, after, last_flag, message_at, message_in, progress_at, record_of, start_of}
+use Rattle.aegis.specs.Calls.{Progress, progress_after, last_flag, message_at, message_in, progress_at, record_of, start_of}
 use Rattle.aegis.specs.RecordStream.{AreRecords, AreWithin, Sealing, beginning, first_position, frame, frames, header, position_after, sealed}
 use Rattle.aegis_files.specs.declared.error.FileError.{FileError}
 use Rattle.aegis_files.specs.declared.error.FileError.TheVariants.{TooLong}
@@ -73,7 +73,7 @@ more_written prefix sent bytes old new new' before written = grind (arith, appen
 
 -- one more record, which may be the last one: no piece is too long for it
 piece_reaches : (p q : Progress) (last : Bool) (key prefix context : List ℕ) (ms : List (List ℕ)) (sent m : List ℕ)
-    → Reaches key prefix context (first_position Second) p false ms sent → q ≡ after p last m → length m ≤ piece_bytes
+    → Reaches key prefix context (first_position Second) p false ms sent → q ≡ progress_after p last m → length m ≤ piece_bytes
     → Reaches key prefix context (first_position Second) q last (ms ++ m ∷ []) (sent ++ record_of p (last_flag last) m)
 piece_reaches p q last key prefix context ms sent m r next piece =
     reaches_more key prefix context (first_position Second) p q last ms sent m r next (rw (r.reached, version_after (first_position Second) ms) (omega (arith, piece)))
@@ -84,7 +84,7 @@ more_read : (contents left left' : Option (List ℕ)) (ms : List (List ℕ)) (m 
 more_read contents left left' ms m before read = grind (arith, concat-push, Consumes-trans)
 
 pub seals_more : (p q : Progress) (key prefix context : List ℕ) (contents left left' old new new' : Option (List ℕ)) (m bytes : List ℕ)
-    → SealsSome p key prefix context contents left old new → Consumes left left' m → q ≡ after p false m → bytes ≡ record_of p 0 m → Appends new new' bytes
+    → SealsSome p key prefix context contents left old new → Consumes left left' m → q ≡ progress_after p false m → bytes ≡ record_of p 0 m → Appends new new' bytes
     → IsNextPiece m left' → start_of q + 37 ≤ MAX_AEAD_BYTES → SealsSome q key prefix context contents left' old new'
 seals_more p q key prefix context contents left left' old new new' m bytes s read next is written piece room = record {
   messages = s.messages ++ m ∷ [];
@@ -126,7 +126,7 @@ seals_end p key prefix context contents left left' old new new' bytes long s rea
     some_with contents _ _ (λ t all.
     let ms : List (List ℕ) = s.messages ++ [] ∷ [] in
     let bytes : List ℕ = s.sent ++ record_of p 1 [] in
-    let q : Progress = after p true [] in
+    let q : Progress = progress_after p true [] in
     let size = file_size p key prefix context t s.sent s.messages long s.reaches all in (
       prefix ++ (header Second ++ bytes),
       record {
@@ -273,7 +273,7 @@ pub stops_writing : (p : Progress) (last : Bool) (key prefix context : List ℕ)
     → Appends new new' (take n bytes) → IsWriteError e → IfSome contents (λ t. WritesFileBeginning key prefix context t old new' e)
 stops_writing p last key prefix context contents left left' old new new' m bytes n e long s read next is written why =
     let ms : List (List ℕ) = s.messages ++ m ∷ [] in
-    let r = piece_reaches p (after p last m) last key prefix context s.messages s.sent m s.reaches refl (short last next) in
+    let r = piece_reaches p (progress_after p last m) last key prefix context s.messages s.sent m s.reaches refl (short last next) in
     read_some contents left' (concat ms) _ (more_read contents left left' s.messages m s.read read) (λ t rest known contents_is left_is.
     stops key prefix context t (prefix ++ (header Second ++ (s.sent ++ take n bytes))) (drop n bytes) rest ms (last_flag last) old new' e long r.within
     (ap (λ (l : List ℕ). prefix ++ (header Second ++ l)) (sym r.are ∙ ap (λ (l : List ℕ). s.sent ++ l) (sym is)) ∙ cut prefix s.sent bytes n) contents_is

@@ -16,7 +16,7 @@ use Rattle.aegis_files.specs.declared.range.ContentsRange.{ContentsRange}
 use Rattle.aegis.specs.declared.record.position.RecordPosition.{RecordPosition}
 
 -- the file of this prefix, for these contents
-pub record IsFileOf (key prefix context contents file : List ℕ) : Type 0 where
+pub record IsFileWithPrefix (key prefix context contents file : List ℕ) : Type 0 where
   pub messages : List (List ℕ)
   pub stream : List ℕ
   pub are : AreRecords Second key prefix context messages stream
@@ -27,7 +27,7 @@ pub record IsFileOf (key prefix context contents file : List ℕ) : Type 0 where
 pub record IsSealedFile (key context contents file : List ℕ) : Type 0 where
   pub prefix : List ℕ
   pub long : length prefix ≡ prefix_bytes
-  pub is : IsFileOf key prefix context contents file
+  pub is : IsFileWithPrefix key prefix context contents file
 
 -- ---- the pieces that sealing makes of contents
 
@@ -57,7 +57,7 @@ stream_length n = 4 + record_overhead * (pieces_in n + 1) + n
 
 -- The file that sealing writes for these contents.
 pub record IsFileInPieces (key prefix context contents file : List ℕ) : Type 0 where
-  pub is : IsFileOf key prefix context contents file
+  pub is : IsFileWithPrefix key prefix context contents file
   pub pieces : is.messages ≡ messages_for contents
   pub size : length file ≡ prefix_bytes + stream_length (length contents)
   -- the stream is within the limit
@@ -207,7 +207,7 @@ pub record FailsWith (key context file : List ℕ) (old new : Option (List ℕ))
 pub record IsRekeyed (key new_key prefix context file new_file : List ℕ) : Type 0 where
   pub contents : List ℕ
   pub old : IsSealedFile key context contents file
-  pub new : IsFileOf new_key prefix context contents new_file
+  pub new : IsFileWithPrefix new_key prefix context contents new_file
   pub pieces : new.messages ≡ old.is.messages
   pub size : length new_file ≡ length file
   -- the streams are within the limit

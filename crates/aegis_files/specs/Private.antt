@@ -8,7 +8,7 @@ use Rattle.aegis.specs.declared.record.version.Version.TheVariants.{Second}
 use Rattle.aegis.specs.RecordStream.{IsFault, header, limit, prefix_bytes}
 use Rattle.aegis.specs.declared.record.error.RecordError.{RecordError}
 use Rattle.aegis.specs.declared.record.error.RecordError.TheVariants as errors
-use Rattle.aegis.specs.Calls.{Begun, Progress, after, last_flag, record_of, start_of}
+use Rattle.aegis.specs.Calls.{Begun, Progress, progress_after, last_flag, record_of, start_of}
 use Rattle.aegis_files.specs.Opening.{IsReadError}
 
 -- The bytes `from..end` of a buffer were read: all up to `to`, or all that were left. Those before them are as they were, so if
@@ -24,7 +24,7 @@ pub record ReadsPart (old new : List ℕ) (from to end : ℕ) (left left' : Opti
 -- The next record was read, and it is that of the message m.
 pub record ReadsNext (old new : Progress) (left left' : Option (List ℕ)) (is_last : Bool) (m : List ℕ) : Type 0 where
   pub read : Consumes left left' (record_of old (last_flag is_last) m)
-  pub progress : new ≡ after old is_last m
+  pub progress : new ≡ progress_after old is_last m
   pub within : length m ≤ limit old.position.version
 
 -- The next record was not opened: a read failed, or memory ran out, or else the error is the first fault of the stream that

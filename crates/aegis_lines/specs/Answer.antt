@@ -38,8 +38,8 @@ abbrev pub fields_of : List ℕ → List (List ℕ)
 fields_of line = cut_at 0x20 line
 
 -- the pieces of a field, which stand between commas
-abbrev pub pieces_of : List ℕ → List (List ℕ)
-pieces_of field = cut_at 0x2c field
+abbrev pub field_pieces : List ℕ → List (List ℕ)
+field_pieces field = cut_at 0x2c field
 
 -- field i of a line; the command is field 0
 abbrev pub field_of : List (List ℕ) → ℕ → List ℕ
@@ -55,7 +55,7 @@ bytes_of field = if bytes_eq field (codes "-") then [] else result_unwrap_or (de
 
 -- the bytes of each piece of a field, and those of all pieces, one after the other
 abbrev pub messages_of : List ℕ → List (List ℕ)
-messages_of field = map bytes_of (pieces_of field)
+messages_of field = map bytes_of (field_pieces field)
 
 abbrev pub joined_of : List ℕ → List ℕ
 joined_of field = concat (messages_of field)
@@ -138,8 +138,8 @@ fault_of key tag (kinds.Exactly size) field = bytes_fault (is_bytes field) (leng
 fault_of key tag kinds.Key field = bytes_fault (is_bytes field) (length (bytes_of field) == key)
 fault_of key tag kinds.Tag field = bytes_fault (is_bytes field) (length (bytes_of field) == tag)
 fault_of key tag (kinds.AtMost size) field = bytes_fault (is_bytes field) (leb (length (bytes_of field)) size)
-fault_of key tag kinds.Pieces field = bytes_fault (list_all is_bytes (pieces_of field)) (leb (length (joined_of field)) max_aead_bytes)
-fault_of key tag kinds.Messages field = bytes_fault (list_all is_bytes (pieces_of field)) (have_records (messages_of field))
+fault_of key tag kinds.Pieces field = bytes_fault (list_all is_bytes (field_pieces field)) (leb (length (joined_of field)) max_aead_bytes)
+fault_of key tag kinds.Messages field = bytes_fault (list_all is_bytes (field_pieces field)) (have_records (messages_of field))
 
 -- the place of a fault in the order in which they are looked for
 abbrev pub order_of : Fault → ℕ
@@ -157,15 +157,15 @@ earlier (Some a) None = Some a
 earlier (Some a) (Some b) = if nat_le (order_of a) (order_of b) then Some a else Some b
 
 -- the first fault of the fields from field i on, which are to be of these kinds
-abbrev pub first_fault : (key tag : ℕ) → List Kind → ℕ → List (List ℕ) → Option Fault
-first_fault key tag [] i fields = None
-first_fault key tag (kind ∷ kinds) i fields = earlier (fault_of key tag kind (field_of fields i)) (first_fault key tag kinds (i + 1) fields)
+abbrev pub first_field_fault : (key tag : ℕ) → List Kind → ℕ → List (List ℕ) → Option Fault
+first_field_fault key tag [] i fields = None
+first_field_fault key tag (kind ∷ kinds) i fields = earlier (fault_of key tag kind (field_of fields i)) (first_field_fault key tag kinds (i + 1) fields)
 
 -- the first fault of a command's line; each is looked for in all fields before the next one
 abbrev pub fault_in : Command → List (List ℕ) → Option Fault
 fault_in command fields =
     if length fields == length (kinds_of command) + 1
-    then first_fault (key_length_of (variant_in fields)) (tag_length_in fields) (kinds_of command) 1 fields
+    then first_field_fault (key_length_of (variant_in fields)) (tag_length_in fields) (kinds_of command) 1 fields
     else Some faults.Fields
 
 -- ---- answers
@@ -211,8 +211,8 @@ IsRecordsAnswer key prefix context bytes text =
     ⊎ ((e : RecordError) × IsFault key prefix context bytes e × IsRefusal e text)
 
 -- the bytes of field i of a line
-abbrev pub bytes_at : List (List ℕ) → ℕ → List ℕ
-bytes_at fields i = bytes_of (field_of fields i)
+abbrev pub field_bytes : List (List ℕ) → ℕ → List ℕ
+field_bytes fields i = bytes_of (field_of fields i)
 
 -- the variant of a line, as the definitions have it
 abbrev pub standard_in : List (List ℕ) → base.Variant
@@ -220,16 +220,16 @@ standard_in fields = standard_of (variant_in fields)
 
 -- this text is the answer to a command's line without a fault
 abbrev pub IsReply : Command → List (List ℕ) → List ℕ → Type 0
-IsReply commands.Round f text = text ≡ shown (round (bytes_at f 1) (bytes_at f 2))
+IsReply commands.Round f text = text ≡ shown (round (field_bytes f 1) (field_bytes f 2))
 IsReply commands.Seal f text =
-    text ≡ shown_pair (seal (standard_in f) (tag_length_in f) (bytes_at f 3) (bytes_at f 4) (bytes_at f 5) (joined_of (field_of f 6)))
+    text ≡ shown_pair (seal (standard_in f) (tag_length_in f) (field_bytes f 3) (field_bytes f 4) (field_bytes f 5) (joined_of (field_of f 6)))
 IsReply commands.Open f text =
-    IsOpeningAnswer (Opens (standard_in f) (tag_length_in f) (bytes_at f 3) (bytes_at f 4) (bytes_at f 5) (joined_of (field_of f 6)) (bytes_at f 7)) text
-IsReply commands.Stream f text = text ≡ shown (keystream (standard_in f) (bytes_at f 2) (bytes_at f 3) (digits_value 10 (field_of f 4)))
-IsReply commands.Xor f text = text ≡ shown (xor_keystream (standard_in f) (bytes_at f 2) (bytes_at f 3) (bytes_at f 4))
-IsReply commands.Mac f text = text ≡ shown (mac (standard_in f) (tag_length_in f) (bytes_at f 3) (bytes_at f 4) (joined_of (field_of f 5)))
-IsReply commands.SealRecords f text = text ≡ shown (beginning (sealed (bytes_at f 1) (bytes_at f 2) (bytes_at f 3)) Second 1 (messages_of (field_of f 4)))
-IsReply commands.OpenRecords f text = IsRecordsAnswer (bytes_at f 1) (bytes_at f 2) (bytes_at f 3) (bytes_at f 4) text
+    IsOpeningAnswer (Opens (standard_in f) (tag_length_in f) (field_bytes f 3) (field_bytes f 4) (field_bytes f 5) (joined_of (field_of f 6)) (field_bytes f 7)) text
+IsReply commands.Stream f text = text ≡ shown (keystream (standard_in f) (field_bytes f 2) (field_bytes f 3) (digits_value 10 (field_of f 4)))
+IsReply commands.Xor f text = text ≡ shown (xor_keystream (standard_in f) (field_bytes f 2) (field_bytes f 3) (field_bytes f 4))
+IsReply commands.Mac f text = text ≡ shown (mac (standard_in f) (tag_length_in f) (field_bytes f 3) (field_bytes f 4) (joined_of (field_of f 5)))
+IsReply commands.SealRecords f text = text ≡ shown (beginning (sealed (field_bytes f 1) (field_bytes f 2) (field_bytes f 3)) Second 1 (messages_of (field_of f 4)))
+IsReply commands.OpenRecords f text = IsRecordsAnswer (field_bytes f 1) (field_bytes f 2) (field_bytes f 3) (field_bytes f 4) text
 
 -- this text is the answer to a command's line: its first fault, if it has one
 abbrev pub IsFaultOrReply : Option Fault → Command → List (List ℕ) → List ℕ → Type 0

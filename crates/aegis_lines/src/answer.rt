@@ -5,7 +5,7 @@ ghost use Rattle.aegis_base.specs.Chunks.{joined, texts};
 ghost use Rattle.aegis_base.specs.Lane.{IsTagLength};
 ghost use Rattle.aegis_base.specs.declared.error.Error.TheVariants.{OutOfMemory};
 ghost use Rattle.aegis_base.specs.declared.error.TheConstants.{MAX_AEAD_BYTES};
-ghost use Rattle.aegis_lines.specs.Answer.{IsAnswer, IsOpeningAnswer, IsReply, bytes_at, command_named, fault_of, field_of, shown, shown_pair, tag_length_in, variant_in};
+ghost use Rattle.aegis_lines.specs.Answer.{IsAnswer, IsOpeningAnswer, IsReply, field_bytes, command_named, fault_of, field_of, shown, shown_pair, tag_length_in, variant_in};
 ghost use Rattle.aegis_lines.specs.Private.{IsFaultless};
 ghost use Rattle.aegis_lines.specs.declared.table.Command.TheVariants as commands;
 ghost use Rattle.aegis_lines.specs.declared.table.Kind.TheVariants as kinds;
@@ -129,8 +129,8 @@ fn keys<A: Allocator + Copy, const N: usize>(
     requires in_line { key + 1 < length fields.now }
     requires key { fault_of N 0 kinds.Key (field_of (texts fields.now) key) ≡ None }
     requires nonce { fault_of N 0 kinds.Key (field_of (texts fields.now) (key + 1)) ≡ None }
-    ensures key { IfOk result (λ keys. keys.key ≡ bytes_at (texts fields.now) key) }
-    ensures nonce { IfOk result (λ keys. keys.nonce ≡ bytes_at (texts fields.now) (key + 1)) }
+    ensures key { IfOk result (λ keys. keys.key ≡ field_bytes (texts fields.now) key) }
+    ensures nonce { IfOk result (λ keys. keys.nonce ≡ field_bytes (texts fields.now) (key + 1)) }
 {
     Ok(Keys {
         key: array(alloc, field(fields, key))?,
@@ -151,9 +151,9 @@ fn cipher<A: Allocator + Copy>(
     requires nonce { fault_of (key_length_of (variant_in (texts fields.now))) 0 kinds.Key
         (field_of (texts fields.now) (key + 1)) ≡ None }
     ensures variant { IfOk result (λ cipher. variant_of cipher ≡ variant_in (texts fields.now)) }
-    ensures key { IfOk result (λ cipher. key_of cipher ≡ bytes_at (texts fields.now) key) }
+    ensures key { IfOk result (λ cipher. key_of cipher ≡ field_bytes (texts fields.now) key) }
     ensures nonce { IfOk result
-        (λ cipher. nonce_of cipher ≡ bytes_at (texts fields.now) (key + 1)) }
+        (λ cipher. nonce_of cipher ≡ field_bytes (texts fields.now) (key + 1)) }
 {
     Ok(match variant_in(fields) {
         AnyVariant::Aegis128L => AnyCipher::Aegis128L(keys(alloc, fields, key)?),

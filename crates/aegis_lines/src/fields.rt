@@ -6,7 +6,7 @@ ghost use Rattle.std.specs.List.{list_all};
 ghost use Rattle.std.specs.Str.Parse.{digits_value};
 ghost use Rattle.hex.specs.Hex.{is_hex_digit};
 ghost use Rattle.aegis_base.specs.Chunks.{texts};
-ghost use Rattle.aegis_lines.specs.Answer.{bytes_of, cut_at, field_of, is_bytes, is_count, messages_of, pieces_of, shown, tag_length_in, variant_in, variant_named};
+ghost use Rattle.aegis_lines.specs.Answer.{bytes_of, cut_at, field_of, is_bytes, is_count, messages_of, field_pieces, shown, tag_length_in, variant_in, variant_named};
 ghost use Rattle.aegis_variants.specs.Cipher.{key_length_of};
 
 use aegis_variants::AnyVariant;
@@ -152,7 +152,7 @@ pub fn array<A: Allocator, const N: usize>(alloc: A, field: &[u8]) -> Result<[u8
 
 /// Returns the bytes of each piece of a field. The only error is that there is no memory for them.
 pub fn pieces<A: Allocator + Copy>(alloc: A, field: &[u8]) -> Result<Vec<Vec<u8, A>, A>, AllocError>
-    requires { list_all is_bytes (pieces_of field.now) ≡ true }
+    requires { list_all is_bytes (field_pieces field.now) ≡ true }
     ensures { IfOk result (λ pieces. map vec_items pieces.items ≡ messages_of field.now) }
 {
     let texts = split(alloc, field, b',')?;

@@ -4,7 +4,7 @@ ghost use Rattle.std.specs.Prelude.{◌≡◌, ◌+◌, ◌≤◌, IfOk, Ok, Non
 ghost use Rattle.std.specs.List.{concat, list_all};
 ghost use Rattle.aegis_base.specs.Chunks.{texts};
 ghost use Rattle.aegis_base.specs.declared.error.TheConstants.{MAX_AEAD_BYTES};
-ghost use Rattle.aegis_lines.specs.Answer.{bytes_of, is_bytes, bytes_fault, command_named, fault_in, fault_of, first_fault, have_records, kinds_of, unless};
+ghost use Rattle.aegis_lines.specs.Answer.{bytes_of, is_bytes, bytes_fault, command_named, fault_in, fault_of, first_field_fault, have_records, kinds_of, unless};
 ghost use Rattle.aegis_lines.specs.Private.{AreFaultless, IsFaultless};
 
 use crate::fault::{Fault, earlier};
@@ -178,8 +178,8 @@ fn first_fault<A: Allocator + Copy>(
     index: usize,
 ) -> Result<Option<Fault>, AllocError>
     requires { index + length kinds.now ≤ length fields.now }
-    ensures first { IfOk result
-        (λ fault. fault ≡ first_fault lengths.key lengths.tag kinds.now index (texts fields.now)) }
+    ensures first { IfOk result (λ fault. fault
+        ≡ first_field_fault lengths.key lengths.tag kinds.now index (texts fields.now)) }
     ensures faultless { result ≡ Ok None
         → AreFaultless lengths.key lengths.tag kinds.now index (texts fields.now) }
 {

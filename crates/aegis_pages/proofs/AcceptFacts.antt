@@ -9,7 +9,7 @@ use Rattle.aegis_storage.specs.Private.{IsContent}
 use Rattle.aegis_storage.proofs.Disks.{readable}
 use Rattle.aegis_storage.proofs.Journals.{one_journal}
 use Rattle.aegis_pages.specs.declared.header.FileHeader.{FileHeader}
-use Rattle.aegis_pages.specs.Commits.{AreWritesOf, Fits, HasHonestHeader, IsAccepted, IsHonest, IsNotWhole, IsOfAnother, IsOfCommit, IsOpenRefusal, MakesNoOther, RecoversContentsUnlessOtherJournal, head_of, journal_key}
+use Rattle.aegis_pages.specs.Commits.{AreWritesOf, Fits, HasHonestHeader, IsJournalAccepted, IsHonest, IsNotWhole, IsOfAnother, IsOfCommit, IsOpenRefusal, MakesNoOther, RecoversContentsUnlessOtherJournal, head_of, journal_key}
 use Rattle.aegis_pages.specs.declared.error.PagesError.{PagesError}
 use Rattle.aegis_pages.specs.declared.error.PagesError.TheVariants.{Header, Journal}
 use Rattle.aegis_pages.specs.Layouts.{HasHeader, HasNoHeader, IsHeader, Layout, journal_beginning, layout_of}
@@ -50,7 +50,7 @@ was_read now variant key a b read header_block header content count is found non
 -- ---- what is accepted fits
 
 fits : (variant : Variant) (key file read : List ℕ) (header_block : Option (List ℕ)) (header : Option FileHeader) (writes : Option Writes)
-    → WasRead variant key (Some file) (Some read) read header_block header writes → IsAccepted variant key header_block header writes read → Fits variant key file read
+    → WasRead variant key (Some file) (Some read) read header_block header writes → IsJournalAccepted variant key header_block header writes read → Fits variant key file read
 fits variant key file read header_block None None it accepted = absurd accepted
 fits variant key file read header_block None (Some ws) it accepted = record {
   whole = λ found is has. absurd (has it.none);
@@ -73,12 +73,12 @@ fits variant key file read (Some s) (Some h) (Some ws) it accepted = record {
 }
 
 pub fits_all : (variant : Variant) (key : List ℕ) (a b : Option (List ℕ)) (read : List ℕ) (header_block : Option (List ℕ)) (header : Option FileHeader) (writes : Option Writes)
-    → WasRead variant key a b read header_block header writes → IsAccepted variant key header_block header writes read → IfSome a (λ file. IfSome b (Fits variant key file))
+    → WasRead variant key a b read header_block header writes → IsJournalAccepted variant key header_block header writes read → IfSome a (λ file. IfSome b (Fits variant key file))
 fits_all variant key None b read header_block header writes it accepted = tt
 fits_all variant key (Some file) None read header_block header writes it accepted = tt
 fits_all variant key (Some file) (Some js) read header_block header writes it accepted =
     fits variant key file js header_block header writes (subst (λ (l : List ℕ). WasRead variant key (Some file) (Some js) l header_block header writes) it.content it)
-    (subst (IsAccepted variant key header_block header writes) it.content accepted)
+    (subst (IsJournalAccepted variant key header_block header writes) it.content accepted)
 
 -- a journal that fits, and that opening would make again only if it is that of the commit, is that of the commit or not whole
 pub made_is_own : (variant : Variant) (key before now : List ℕ) (storage journal : Option Disk) (a b : Option (List ℕ)) (batch : RecoversContentsUnlessOtherJournal variant key before now storage journal)
@@ -98,17 +98,17 @@ own_is_made variant key before now storage journal (Some file) (Some js) batch h
 -- ---- what is not accepted does not fit
 
 fitting : (variant : Variant) (key file read : List ℕ) (header_block : Option (List ℕ)) (h : FileHeader) (writes : Option Writes)
-    → WasRead variant key (Some file) (Some read) read header_block (Some h) writes → Fits variant key file read → IsAccepted variant key header_block (Some h) writes read
+    → WasRead variant key (Some file) (Some read) read header_block (Some h) writes → Fits variant key file read → IsJournalAccepted variant key header_block (Some h) writes read
 fitting variant key file read header_block h None it fit = fit.own it.torn (layout_of variant key h) h.counter h.len refl refl it.found.is
 fitting variant key file read None h (Some ws) it fit = let low = it.short in let long = it.found.is.whole in omega (arith, low, long)
 fitting variant key file read (Some s) h (Some ws) it fit =
     subst (λ (l : List ℕ). IsOfCommit l ws) (sym (head_read variant file s it.first.1)) (fit.whole ws it.whole (λ no. no (layout_of variant key h) h.counter h.len refl refl it.found.is))
 
 not_fitting : (variant : Variant) (key file read : List ℕ) (b : Option (List ℕ)) (header_block : Option (List ℕ)) (h : FileHeader) (writes : Option Writes)
-    → WasRead variant key (Some file) b read header_block (Some h) writes → (IsAccepted variant key header_block (Some h) writes read → ⊥) → IfSome b (λ js. Fits variant key file js → ⊥)
+    → WasRead variant key (Some file) b read header_block (Some h) writes → (IsJournalAccepted variant key header_block (Some h) writes read → ⊥) → IfSome b (λ js. Fits variant key file js → ⊥)
 not_fitting variant key file read None header_block h writes it not = tt
 not_fitting variant key file read (Some js) header_block h writes it not = λ fit.
-    not (subst (IsAccepted variant key header_block (Some h) writes) (sym it.content)
+    not (subst (IsJournalAccepted variant key header_block (Some h) writes) (sym it.content)
     (fitting variant key file js header_block h writes (subst (λ (l : List ℕ). WasRead variant key (Some file) (Some js) l header_block (Some h) writes) it.content it) fit))
 
 not_whole : (variant : Variant) (key read : List ℕ) (b : Option (List ℕ)) → IfSome b (λ js. read ≡ js) → IsNotWhole variant key read → IfSome b (IsNotWhole variant key)
@@ -116,7 +116,7 @@ not_whole variant key read None same torn = tt
 not_whole variant key read (Some js) same torn = subst (IsNotWhole variant key) same torn
 
 pub refused_all : (variant : Variant) (key : List ℕ) (a b : Option (List ℕ)) (read : List ℕ) (header_block : Option (List ℕ)) (header : Option FileHeader) (writes : Option Writes)
-    → WasRead variant key a b read header_block header writes → (IsAccepted variant key header_block header writes read → ⊥)
+    → WasRead variant key a b read header_block header writes → (IsJournalAccepted variant key header_block header writes read → ⊥)
     → (e : PagesError) → IfSome header (λ _. e ≡ Journal) → IfNone header (e ≡ Header) → IsOpenRefusal variant key a b e
 refused_all variant key a b read header_block None None it not e some none = rw none (it.none, not_whole variant key read b it.content it.torn)
 refused_all variant key a b read header_block None (Some ws) it not e some none = absurd (not tt)
@@ -144,7 +144,7 @@ own_beginning beginning bytes (inr same) another = another.1 same
 accepts : (variant : Variant) (key before now : List ℕ) (storage journal : Option Disk) (batch : RecoversContentsUnlessOtherJournal variant key before now storage journal)
     (file read : List ℕ) (header_block : Option (List ℕ)) (header : Option FileHeader) (writes : Option Writes)
     → WasRead variant key (Some file) (Some read) read header_block header writes → IsPossible (Some file) storage → IsPossible (Some read) journal
-    → IsHonest batch read → HasHonestHeader batch file → IsAccepted variant key header_block header writes read
+    → IsHonest batch read → HasHonestHeader batch file → IsJournalAccepted variant key header_block header writes read
 accepts variant key before now storage journal batch file read header_block header writes it p q honest honest_header =
     cases header_block header writes it
   where
@@ -154,7 +154,7 @@ accepts variant key before now storage journal batch file read header_block head
         has_header batch.layout before now batch.file (after_writes batch.writes batch.file) file batch.without batch.with_writes (gives.other torn)
 
     cases : (header_block : Option (List ℕ)) (header : Option FileHeader) (writes : Option Writes) → WasRead variant key (Some file) (Some read) read header_block header writes
-        → IsAccepted variant key header_block header writes read
+        → IsJournalAccepted variant key header_block header writes read
     cases header_block None None it = let header = own it.torn in it.none batch.layout header.0 header.1 batch.variant_is batch.key_is header.2
     cases header_block None (Some ws) it = tt
     cases header_block (Some h) None it =
@@ -172,11 +172,11 @@ accepts variant key before now storage journal batch file read header_block head
 pub accepts_all : (variant : Variant) (key before now : List ℕ) (storage journal : Option Disk) (batch : RecoversContentsUnlessOtherJournal variant key before now storage journal)
     (a b : Option (List ℕ)) (read : List ℕ) (header_block : Option (List ℕ)) (header : Option FileHeader) (writes : Option Writes)
     → WasRead variant key a b read header_block header writes → IsPossible a storage → IsPossible b journal
-    → IfSome b (IsHonest batch) → IfSome a (HasHonestHeader batch) → IsAccepted variant key header_block header writes read
+    → IfSome b (IsHonest batch) → IfSome a (HasHonestHeader batch) → IsJournalAccepted variant key header_block header writes read
 accepts_all variant key before now storage journal batch None b read header_block header writes it p q honest honest_header =
     absurd (let x = readable None storage batch.recovers.storage_disk p batch.recovers.storage_is in let none = x.is in cc)
 accepts_all variant key before now storage journal batch (Some file) None read header_block header writes it p q honest honest_header =
     absurd (let x = readable None journal batch.recovers.journal_disk q batch.recovers.journal_is in let none = x.is in cc)
 accepts_all variant key before now storage journal batch (Some file) (Some js) read header_block header writes it p q honest honest_header =
-    subst (IsAccepted variant key header_block header writes) (sym it.content) (accepts variant key before now storage journal batch file js header_block header writes
+    subst (IsJournalAccepted variant key header_block header writes) (sym it.content) (accepts variant key before now storage journal batch file js header_block header writes
     (subst (λ (l : List ℕ). WasRead variant key (Some file) (Some js) l header_block header writes) it.content it) p q honest honest_header)

@@ -3,7 +3,7 @@ use Rattle.std.proofs.Common.{◌≡◌, ◌↔◌, IsTrue, ℕ, ◌+◌, ◌<�
 use Rattle.std.proofs.lemmas.List.{length-append, length-take, take-append-drop, take-take, take_all}
 use Rattle.aegis_base.specs.Variant.{Variant}
 use Rattle.aegis_storage.specs.Disk.{Writes, after_writes, overwritten, part_at}
-use Rattle.aegis_storage.specs.Journal.{AreWithin, entries, entry}
+use Rattle.aegis_storage.specs.Journal.{AreWithinStorage, entries, entry}
 use Rattle.aegis_storage.specs.declared.store.TheConstants.{MAX_STORAGE_BYTES}
 use Rattle.aegis_storage.proofs.Journals.{same_entry}
 use Rattle.aegis_pages.specs.Commits.{BeginsWith, EndsWith, IsOfCommit, head_bytes, head_of}
@@ -14,14 +14,14 @@ use Rattle.std.specs.List.{AllByRecursion}
 use Rattle.std.proofs.Math.Nat.{mul-le-mul_right}
 use Rattle.aegis_storage.proofs.Disks.{written_more}
 use Rattle.aegis_storage.proofs.Overwriting.{kept_part, length-overwritten, put_part}
-use Rattle.aegis_pages.specs.OpenFile.{ArePages, Changes, IsSealed, Plaintexts, Shows, contents_at, unchanged}
+use Rattle.aegis_pages.specs.OpenFile.{ArePages, ChangedPages, IsSealed, Plaintexts, Shows, contents_at, unchanged}
 use Rattle.aegis_pages.specs.Private.{HaveOnePlaintext, IsSealOf, Seals}
 use Rattle.aegis_pages.specs.Layouts.{IsHeader, IsHeaderBlock, Layout, OpensAt, sealed_bytes, page_at, page_place}
 
 -- ---- the first and the last write in the content of a journal
 
 -- the write that was found is the first one
-pub first_known : (place : ℕ) (bytes rest content : List ℕ) (writes : Writes) → place + length bytes ≤ MAX_STORAGE_BYTES → content ≡ entry (place, bytes) ++ rest → AreWithin writes → content ≡ entries writes
+pub first_known : (place : ℕ) (bytes rest content : List ℕ) (writes : Writes) → place + length bytes ≤ MAX_STORAGE_BYTES → content ≡ entry (place, bytes) ++ rest → AreWithinStorage writes → content ≡ entries writes
     → (left : Writes) × (writes ≡ (place, bytes) ∷ left)
 first_known place bytes rest content [] low is p same = absurd (let sizes : length (entry (place, bytes) ++ rest) ≡ 0 = ap length (sym is ∙ same) in omega (arith, sizes))
 first_known place bytes rest content (w ∷ ws) low is p same =
@@ -34,7 +34,7 @@ pub false_is_not : IsTrue false → ⊥
 false_is_not is = search rules
 
 pub begins_first : (head : List ℕ) (place : ℕ) (bytes rest content : List ℕ) (writes : Writes) (b : Bool) → IsTrue b ↔ (place ≡ 0) × (take (length head) bytes ≡ head)
-    → place + length bytes ≤ MAX_STORAGE_BYTES → content ≡ entry (place, bytes) ++ rest → AreWithin writes → content ≡ entries writes → IsTrue b ↔ BeginsWith head writes
+    → place + length bytes ≤ MAX_STORAGE_BYTES → content ≡ entry (place, bytes) ++ rest → AreWithinStorage writes → content ≡ entries writes → IsTrue b ↔ BeginsWith head writes
 begins_first head place bytes rest content writes b tested low is p same =
     let first = first_known place bytes rest content writes low is p same in (
       λ yes. (let both = tested.0 yes in (bytes, first.0, first.1 ∙ ap (λ (n : ℕ). (n, bytes) ∷ first.0) both.0, both.1)),
@@ -45,7 +45,7 @@ begins_first head place bytes rest content writes b tested low is p same =
     )
 
 pub begins_none : (head content : List ℕ) (writes : Writes) → ((write : ℕ × List ℕ) (rest : List ℕ) → write.0 + length write.1 ≤ MAX_STORAGE_BYTES → content ≡ entry write ++ rest → ⊥)
-    → AreWithin writes → content ≡ entries writes → BeginsWith head writes → ⊥
+    → AreWithinStorage writes → content ≡ entries writes → BeginsWith head writes → ⊥
 begins_none head content [] none p same begins = absurd (let is = begins.2 in cc)
 begins_none head content (w ∷ ws) none p same begins = none w (entries ws) p.0 same
 
@@ -195,7 +195,7 @@ header_written layout counter len header_block file long is = record {
   is = subst (IsHeaderBlock layout counter len) (sym (ap (part_at (overwritten file 0 header_block) 0) (sym long) ∙ put_part file 0 header_block)) is;
 }
 
-header_pages : (layout : Layout) (changes : Changes) (header_block contents file : List ℕ) → length header_block ≡ 512 → ArePages layout changes contents file → ArePages layout changes contents (overwritten file 0 header_block)
+header_pages : (layout : Layout) (changes : ChangedPages) (header_block contents file : List ℕ) → length header_block ≡ 512 → ArePages layout changes contents file → ArePages layout changes contents (overwritten file 0 header_block)
 header_pages layout changes header_block contents file long are = record {
   page = λ k low.
       let page = are.page k low in

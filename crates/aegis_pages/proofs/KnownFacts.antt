@@ -3,9 +3,9 @@ use Rattle.std.proofs.Common.{◌≡◌, ℕ, ◌≤◌, ◌≢◌, ◌∙◌, B
 use Rattle.std.specs.declared.io.Error.{Error}
 use Rattle.aegis_pages.specs.declared.error.PagesError.{PagesError}
 use Rattle.aegis_pages.specs.declared.error.PagesError.TheVariants.{Read, Write, Nonce, Header, Damaged, OutOfMemory, Journal, Broken}
-use Rattle.aegis_pages.specs.Commits.{IsReadRefusal, IsReadError, IsBeginRefusal, IsCreateRefusal}
+use Rattle.aegis_pages.specs.Commits.{IsReadRefusal, IsStorageReadError, IsBeginRefusal, IsCreateRefusal}
 use Rattle.aegis_pages.specs.Layouts.{IsPageSize, Layout}
-use Rattle.aegis_pages.specs.OpenFile.{Changes}
+use Rattle.aegis_pages.specs.OpenFile.{ChangedPages}
 
 pub known_map : (o : Option (List ℕ)) (P Q : List ℕ → Type 0) → ((xs : List ℕ) → P xs → Q xs) → IfSome o P → IfSome o Q
 known_map None P Q f p = tt
@@ -27,7 +27,7 @@ if_both (Some x) (Some y) P f = f x y refl refl
 -- ---- errors
 
 -- the same error, for a range that ends later
-pub read_within : (layout : Layout) (changes : Changes) (end most : ℕ) (o : Option (List ℕ)) → end ≤ most → (broken : Bool) (e : PagesError) → IsReadRefusal broken layout changes end o e → IsReadRefusal broken layout changes most o e
+pub read_within : (layout : Layout) (changes : ChangedPages) (end most : ℕ) (o : Option (List ℕ)) → end ≤ most → (broken : Bool) (e : PagesError) → IsReadRefusal broken layout changes end o e → IsReadRefusal broken layout changes most o e
 read_within layout changes end most o within broken (Read e) is = tt
 read_within layout changes end most o within broken (Damaged k) is = (omega (arith, within, is.0), is.1)
 read_within layout changes end most o within broken Broken is = is
@@ -43,7 +43,7 @@ create_begins of_source n journal size Journal is = (size, is)
 create_begins of_source n journal size _ is = absurd is
 
 -- reading failed, and so the file was not left alone
-reads_only : (e : PagesError) → IsReadError e → (e ≢ Journal) × (e ≢ Header)
+reads_only : (e : PagesError) → IsStorageReadError e → (e ≢ Journal) × (e ≢ Header)
 reads_only (Read e) is = (search rules, search rules)
 reads_only _ is = absurd is
 
@@ -51,5 +51,5 @@ reads_only _ is = absurd is
 pub only_error : {T : Type 0} (r : Result T PagesError) (e k : PagesError) → r ≡ Err e → e ≢ k → r ≢ Err k
 only_error r e k is other same = other (let both : Err e ≡ Err k = sym is ∙ same in cc)
 
-pub never_left : {T : Type 0} (r : Result T PagesError) (e : PagesError) → r ≡ Err e → IsReadError e → (r ≢ Err Journal) × (r ≢ Err Header)
+pub never_left : {T : Type 0} (r : Result T PagesError) (e : PagesError) → r ≡ Err e → IsStorageReadError e → (r ≢ Err Journal) × (r ≢ Err Header)
 never_left r e is reads = let other = reads_only e reads in (only_error r e Journal is other.0, only_error r e Header is other.1)

@@ -2,7 +2,7 @@
 use Rattle.std.proofs.Common.{◌≡◌, ℕ, ◌+◌, ◌-◌, ◌<◌, ◌≤◌, Bool, false, List, [], ◌∷◌, ◌++◌, Option, None, Some, IfSome, drop, get_or, length, max, min, take, refl, sym, ap, subst, ◌∙◌, arith}
 use Rattle.std.proofs.lemmas.List.{append-nil, drop_all, ext_get_or, length-append, length-drop, length-take, nil_from_length, take_all}
 use Rattle.aegis_aes.specs.Lanes.{IsLaneCount}
-use Rattle.aegis_storage.specs.Disk.{Adds, Disk, IfKnown, IsPossible, IsSynced, IsWithin, MakesSynced, ResizesTo, SettlesTo, Size, Write, WritesAt, after, certain, overwritten, part_at, resized}
+use Rattle.aegis_storage.specs.Disk.{Adds, Disk, IfKnown, IsPossible, IsSynced, IsWithin, MakesSynced, ResizesTo, SettlesTo, Size, Write, WritesAt, disk_after, certain, overwritten, part_at, resized}
 use Rattle.aegis_storage.proofs.Disks.{applied_append, readable, resized_none, settles_emptied, within_after, within_both, within_settles}
 use Rattle.std.specs.Io.KnownBytes.{Keeps}
 use Rattle.aegis_storage.proofs.Overwriting.{kept_part, length-overwritten, length-part, length-resized, part_byte, put_part, resized_byte}
@@ -134,13 +134,13 @@ pub begun_certain : (P : List ℕ → Type 0) (a b c : Option (List ℕ)) (old s
     → Adds old sized (Size 0 ∷ []) → Adds sized over (Write 0 part ∷ []) → IsSynced over new → old ≡ Some disk → IsCertain P new
 begun_certain P a b c old sized over new part disk before known resizes written sizes writes synced is =
     let x = readable a old disk before is in
-    let cut = known_disk (λ disk now. IsWithin now (after disk (Size 0 ∷ []))) old sized disk sizes is in
-    let now = known_disk (λ disk now. IsWithin now (after disk (Write 0 part ∷ []))) sized over cut.0 writes cut.1 in
+    let cut = known_disk (λ disk now. IsWithin now (disk_after disk (Size 0 ∷ []))) old sized disk sizes is in
+    let now = known_disk (λ disk now. IsWithin now (disk_after disk (Write 0 part ∷ []))) sized over cut.0 writes cut.1 in
     let done = known_disk MakesSynced over new now.0 synced now.1 in
-    let both : Disk = after (after disk (Size 0 ∷ [])) (Write 0 part ∷ []) in
+    let both : Disk = disk_after (disk_after disk (Size 0 ∷ [])) (Write 0 part ∷ []) in
     let settled : SettlesTo both (overwritten [] 0 part) = λ base left.
     applied_append (disk.pending ++ Size 0 ∷ []) (Write 0 part ∷ []) base ∙ ap (λ (l : List ℕ). overwritten l 0 part) (settles_emptied disk base left) in
-    let within : IsWithin now.0 both = within_both now.0 (after cut.0 (Write 0 part ∷ [])) both now.2 (within_after cut.0 (after disk (Size 0 ∷ [])) (Write 0 part ∷ []) cut.2) in
+    let within : IsWithin now.0 both = within_both now.0 (disk_after cut.0 (Write 0 part ∷ [])) both now.2 (within_after cut.0 (disk_after disk (Size 0 ∷ [])) (Write 0 part ∷ []) cut.2) in
     let bytes : c ≡ Some (overwritten [] 0 part) = begun_bytes x.xs part b c (rw x.is at resizes) written in record {
       bytes = overwritten [] 0 part;
       is = done.1 ∙ ap Some (done.2.certainly (overwritten [] 0 part) (within_settles now.0 both (overwritten [] 0 part) within settled));
@@ -150,8 +150,8 @@ begun_certain P a b c old sized over new part disk before known resizes written 
 -- a journal that is emptied and synced
 pub emptied_certain : (old sized new : Option Disk) (disk : Disk) → Adds old sized (Size 0 ∷ []) → IsSynced sized new → old ≡ Some disk → new ≡ Some (certain [])
 emptied_certain old sized new disk sizes synced is =
-    let cut = known_disk (λ disk now. IsWithin now (after disk (Size 0 ∷ []))) old sized disk sizes is in
-    let done = known_disk MakesSynced sized new cut.0 synced cut.1 in done.1 ∙ ap Some (done.2.certainly [] (within_settles cut.0 (after disk (Size 0 ∷ [])) [] cut.2 (settles_emptied disk)))
+    let cut = known_disk (λ disk now. IsWithin now (disk_after disk (Size 0 ∷ []))) old sized disk sizes is in
+    let done = known_disk MakesSynced sized new cut.0 synced cut.1 in done.1 ∙ ap Some (done.2.certainly [] (within_settles cut.0 (disk_after disk (Size 0 ∷ [])) [] cut.2 (settles_emptied disk)))
 
 pub created_has : (layout : Layout) (changes : Plaintexts) (b : Option (List ℕ)) → ((k : ℕ) → contents_at changes k ≡ None) → IsKnown (IsHeader layout 0 0) b → IsKnown (Has layout 0 0 0 changes false []) b
 created_has layout changes None none known = absurd known

@@ -5,7 +5,7 @@ use Rattle.std.proofs.lemmas.List.{get_or-drop, get_or-take, length-drop, length
 use Rattle.std.proofs.lemmas.Nat.{div-add-mod', div-mul-add, mod-mul-add, div_below, le-div, mod_below}
 use Rattle.aegis_storage.specs.Disk.{overwritten}
 use Rattle.aegis_pages.specs.Layouts.{Layout, sealed_bytes, inner, nonce_bytes}
-use Rattle.aegis_pages.specs.OpenFile.{ArePages, Changes, IsByte, Shows, IsApart, IsPage, KeepsOthers}
+use Rattle.aegis_pages.specs.OpenFile.{ArePages, ChangedPages, IsByte, Shows, IsApart, IsPage, KeepsOthers}
 use Rattle.aegis_pages.specs.Private.{WritesContents}
 use Rattle.aegis_storage.proofs.Overwriting.{before_part, within_part, length-overwritten}
 use Rattle.aegis_pages.proofs.ComposeFacts.{outside}
@@ -61,7 +61,7 @@ put_in layout page out piece new at done count p i from to =
 
 -- ---- each byte that was read is a page's
 
-pub bytes_more : (layout : Layout) (changes : Changes) (file page out piece new : List ℕ) (at done count : ℕ) → Puts layout page out piece new at done count
+pub bytes_more : (layout : Layout) (changes : ChangedPages) (file page out piece new : List ℕ) (at done count : ℕ) → Puts layout page out piece new at done count
     → ((i : ℕ) → i < done → IsByte layout changes file (at + i) (get_or out i 0))
     → Shows layout (changes ((at + done) / layout.page_bytes)) file ((at + done) / layout.page_bytes) (inner layout page)
     → (i : ℕ) → i < done + count → IsByte layout changes file (at + i) (get_or new i 0)
@@ -69,7 +69,7 @@ bytes_more layout changes file page out piece new at done count p before opens i
 
 -- ---- each byte that was read is the contents'
 
-pub contents_more : (layout : Layout) (changes : Changes) (file page out piece new contents : List ℕ) (at done count : ℕ) → Puts layout page out piece new at done count
+pub contents_more : (layout : Layout) (changes : ChangedPages) (file page out piece new contents : List ℕ) (at done count : ℕ) → Puts layout page out piece new at done count
     → ArePages layout changes contents file → ((i : ℕ) → i < done → get_or out i 0 ≡ get_or contents (at + i) 0)
     → ((m : List ℕ) → Shows layout (changes ((at + done) / layout.page_bytes)) file ((at + done) / layout.page_bytes) m → inner layout page ≡ m)
     → at + (done + count) ≤ length contents
@@ -79,19 +79,19 @@ contents_more layout changes file page out piece new contents at done count p ar
 -- ---- a part that is written
 
 -- Of the pages from `first` on, those before `number` were changed.
-pub record Keeps (first number : ℕ) (old new : Changes) : Type 0 where
+pub record Keeps (first number : ℕ) (old new : ChangedPages) : Type 0 where
   pub others : (k : ℕ) → (k < first) ⊎ (number ≤ k) → new k ≡ old k
 
-pub record Rewrites (layout : Layout) (len at : ℕ) (part : List ℕ) (first number : ℕ) (old new : Changes) (file : List ℕ) : Type 0 where
+pub record Rewrites (layout : Layout) (len at : ℕ) (part : List ℕ) (first number : ℕ) (old new : ChangedPages) (file : List ℕ) : Type 0 where
   pub written : (k : ℕ) → first ≤ k → k < number → (contents : List ℕ) → length contents ≡ len → ArePages layout old contents file
       → IsPage layout (new k) file k (overwritten contents at part)
 
-pub keeps_more : (first number : ℕ) (old new next : Changes) → first ≤ number → Keeps first number old new → ((k : ℕ) → k ≢ number → next k ≡ new k) → Keeps first (number + 1) old next
+pub keeps_more : (first number : ℕ) (old new next : ChangedPages) → first ≤ number → Keeps first number old new → ((k : ℕ) → k ≢ number → next k ≡ new k) → Keeps first (number + 1) old next
 keeps_more first number old new next from keeps others = record {
   others = λ k apart. grind (arith, others, keeps.others);
 }
 
-pub rewrites_more : (layout : Layout) (len at : ℕ) (part : List ℕ) (first number : ℕ) (old new next : Changes) (made file : List ℕ) → first ≤ number
+pub rewrites_more : (layout : Layout) (len at : ℕ) (part : List ℕ) (first number : ℕ) (old new next : ChangedPages) (made file : List ℕ) → first ≤ number
     → Keeps first number old new → next number ≡ Some made → ((k : ℕ) → k ≢ number → next k ≡ new k)
     → ((contents : List ℕ) → length contents ≡ len → (number * layout.page_bytes < len → IsPage layout (new number) file number contents)
     → (i : ℕ) → i < layout.page_bytes → get_or made i 0 ≡ get_or (overwritten contents at part) (number * layout.page_bytes + i) 0)
@@ -148,7 +148,7 @@ first_last page_bytes len at size first last s = grind (arith, s.some, s.last_is
 pub last_high : (page_bytes len at size first last : ℕ) → Spans page_bytes len at size first last → at + size ≤ last * page_bytes
 last_high page_bytes len at size first last s = grind (arith, s.some, s.last_is, div-add-mod', mod_below)
 
-pub keeps_others : (layout : Layout) (len at size first last number : ℕ) (old new : Changes) → Spans layout.page_bytes len at size first last → number ≤ last
+pub keeps_others : (layout : Layout) (len at size first last number : ℕ) (old new : ChangedPages) → Spans layout.page_bytes len at size first last → number ≤ last
     → Keeps first number old new → KeepsOthers layout.page_bytes (min at len) (at + size) old new
 keeps_others layout len at size first last number old new s to keeps k apart = grind (arith, keeps.others, apart_outside layout.page_bytes len at size first last k s apart)
 
@@ -180,7 +180,7 @@ same_after page_bytes len at size first last k s above in_contents =
       within = λ i h g. omega (arith, more, high, g);
     }
 
-same_page : (layout : Layout) (k at : ℕ) (contents part : List ℕ) (old new : Changes) (file : List ℕ) → Same layout.page_bytes k (length contents) at (length part)
+same_page : (layout : Layout) (k at : ℕ) (contents part : List ℕ) (old new : ChangedPages) (file : List ℕ) → Same layout.page_bytes k (length contents) at (length part)
     → ArePages layout old contents file → new k ≡ old k → IsPage layout (new k) file k (overwritten contents at part)
 same_page layout k at contents part old new file same are is =
     let page = are.page k same.live in
@@ -190,7 +190,7 @@ same_page layout k at contents part old new file same are is =
       bytes = λ i low fits. grind (arith, page.bytes i low, same.within i low, same.stays i low, length-overwritten, outside);
     })
 
-pub rewrites_all : (layout : Layout) (len at : ℕ) (part : List ℕ) (first last : ℕ) (old new : Changes) (file : List ℕ)
+pub rewrites_all : (layout : Layout) (len at : ℕ) (part : List ℕ) (first last : ℕ) (old new : ChangedPages) (file : List ℕ)
     → Spans layout.page_bytes len at (length part) first last → Keeps first last old new → Rewrites layout len at part first last old new file → WritesContents layout len at part old new file
 rewrites_all layout len at part first last old new file s keeps r = λ contents is are. record {
   page = λ k in_contents. cases contents is are k in_contents (cases_lt k first) (cases_lt k last);

@@ -7,7 +7,7 @@ use Rattle.aegis_aes.specs.Lanes.{IsLaneCount}
 use Rattle.aegis_base.specs.Variant.{Variant}
 use Rattle.aegis_base.specs.Message.{Opens}
 use Rattle.aegis_base.proofs.Bijection.{ciphertext-injective}
-use Rattle.aegis_pages.specs.Layouts.{Layout, OpensAt, associated_data, sealed_bytes, inner, nonce_bytes, IsPageSize, plaintext_header, IsHeader, IsHeaderBlock, header_plaintext}
+use Rattle.aegis_pages.specs.Layouts.{Layout, OpensAt, page_associated_data, sealed_bytes, inner, nonce_bytes, IsPageSize, plaintext_header, IsHeader, IsHeaderBlock, header_plaintext}
 use Rattle.std.proofs.Math.Seq.{take-add}
 use Rattle.std.proofs.lemmas.Nat.{from_le_bytes-to_le_bytes_4, from_le_bytes-to_le_bytes_8}
 use Rattle.std.specs.Int.{from_le_bytes, to_le_bytes, w32, w64}
@@ -30,7 +30,7 @@ end_of h t e last =
 
 -- a sealed page that was sealed from its parts
 pub opens_parts : (layout : Layout) (number : ℕ) (h t e m : List ℕ) → length h ≡ nonce_bytes layout → length e ≡ 32
-    → Opens layout.variant 32 layout.key h (associated_data layout number) t e m → OpensAt layout number (h ++ (t ++ e)) m
+    → Opens layout.variant 32 layout.key h (page_associated_data layout number) t e m → OpensAt layout number (h ++ (t ++ e)) m
 opens_parts layout number h t e m first last opens = record {
   is = rw (take_at h (t ++ e) (nonce_bytes layout) first, inner_of layout h t e first last, end_of h t e last) opens;
 }
@@ -132,7 +132,7 @@ made_sealed layout plaintext nonce contents tag rest header_block is lc ln lt lg
 
 pub made_header_block : (layout : Layout) (counter len : ℕ) (plaintext nonce contents tag rest header_block : List ℕ) → IsPageSize layout.page_bytes → len ≤ MAX_CONTENTS_BYTES → counter < 2 ^ 64
     → header_block ≡ plaintext ++ (nonce ++ (contents ++ (tag ++ rest))) → plaintext ≡ plaintext_header layout → length plaintext ≡ 33 → length nonce ≡ nonce_bytes layout → length contents ≡ 16 → length tag ≡ 32
-    → Opens layout.variant 32 layout.key nonce (associated_data layout HEADER_NUMBER) contents tag (header_plaintext counter len) → IsHeaderBlock layout counter len header_block
+    → Opens layout.variant 32 layout.key nonce (page_associated_data layout HEADER_NUMBER) contents tag (header_plaintext counter len) → IsHeaderBlock layout counter len header_block
 made_header_block layout counter len plaintext nonce contents tag rest header_block size within countable is named lc ln lt lg opens = record {
   size = size;
   within = within;

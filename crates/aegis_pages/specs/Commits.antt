@@ -5,9 +5,9 @@ use Rattle.aegis_base.specs.Mac.{mac}
 use Rattle.aegis_base.specs.Variant.{Variant, key_length, long_tag_bytes}
 use Rattle.aegis_pages.specs.Layouts.{HasNoHeader, IsHeader, Layout, journal_beginning, journal_magic, layout_of, max_contents_bytes, nonce_bytes, page_at, plaintext_header, plaintext_header_bytes, IsPageSize}
 use Rattle.aegis_storage.specs.Disk.{Disk, Writes, after_writes, part_at}
-use Rattle.aegis_storage.specs.Journal.{AreWithin, IsAtRest, IsJournal, IsNoOtherJournal, IsOneOf, KeepsBeginning, RecoversUnlessOtherJournal, entries, journal_beginning_bytes}
+use Rattle.aegis_storage.specs.Journal.{AreWithinStorage, IsAtRest, IsJournal, IsNoOtherJournal, IsOneOf, KeepsBeginning, RecoversUnlessOtherJournal, entries, journal_beginning_bytes}
 use Rattle.aegis_pages.specs.declared.header.FileHeader.{FileHeader}
-use Rattle.aegis_pages.specs.OpenFile.{Changes, IsFileOf, IsFileUnder, OpenFile, Shows}
+use Rattle.aegis_pages.specs.OpenFile.{ChangedPages, IsFileOf, IsFileUnder, OpenFile, Shows}
 use Rattle.std.specs.declared.io.Error.{Error}
 use Rattle.aegis_pages.specs.declared.error.PagesError.{PagesError}
 use Rattle.aegis_pages.specs.declared.error.PagesError.TheVariants.{Read, Write, Nonce, Header, Damaged, TooLong, OutOfMemory, Commitment, Journal, Broken, PageSize}
@@ -28,15 +28,15 @@ page_tags layout file zero = []
 page_tags layout file (suc k) = page_tags layout file k ++ page_tag layout file k
 
 -- the input of the MAC: magic number, variant, page size and id; the header's counter and length; and the tags of all pages
-abbrev pub committed : (layout : Layout) (counter len : ℕ) (file : List ℕ) → List ℕ
-committed layout counter len file =
+abbrev pub commitment_input : (layout : Layout) (counter len : ℕ) (file : List ℕ) → List ℕ
+commitment_input layout counter len file =
     plaintext_header layout
     ++ (to_le_bytes w64 counter ++ (to_le_bytes w64 len ++ page_tags layout file (page_count layout len)))
 
 -- the commitment: the MAC of 32 bytes, under the file's key and the nonce of all bytes 255
 abbrev pub commitment : (layout : Layout) (counter len : ℕ) (file : List ℕ) → List ℕ
 commitment layout counter len file =
-    mac layout.variant long_tag_bytes layout.key (replicate (nonce_bytes layout) 255) (committed layout counter len file)
+    mac layout.variant long_tag_bytes layout.key (replicate (nonce_bytes layout) 255) (commitment_input layout counter len file)
 
 -- the commitment of a file is c: that of its header under the variant and the key
 pub record HasCommitment (variant : Variant) (key c file : List ℕ) : Type 0 where
@@ -137,16 +137,16 @@ abbrev pub AreWritesOf : Option Writes → (content : Option (List ℕ)) → Typ
 AreWritesOf None None = ⊤
 AreWritesOf None (Some content) = ⊥
 AreWritesOf (Some writes) None = ⊥
-AreWritesOf (Some writes) (Some content) = AreWithin writes × (content ≡ entries writes)
+AreWritesOf (Some writes) (Some content) = AreWithinStorage writes × (content ≡ entries writes)
 
 -- What was read lets the journal be made again or emptied: a whole one, if the file has no header or its commit began or ended
 -- with that of the header block, and one that is not whole if the file has a header and the journal is not another's.
-abbrev pub IsAccepted : Variant → (key : List ℕ) → (header_block : Option (List ℕ)) → Option FileHeader → Option Writes → (journal : List ℕ) → Type 0
-IsAccepted variant key header_block None None journal = ⊥
-IsAccepted variant key header_block None (Some writes) journal = ⊤
-IsAccepted variant key header_block (Some header) None journal = IsOfAnother (journal_beginning (layout_of variant key header)) journal → ⊥
-IsAccepted variant key None (Some header) (Some writes) journal = ⊥
-IsAccepted variant key (Some header_block) (Some header) (Some writes) journal = IsOfCommit (take (head_bytes variant) header_block) writes
+abbrev pub IsJournalAccepted : Variant → (key : List ℕ) → (header_block : Option (List ℕ)) → Option FileHeader → Option Writes → (journal : List ℕ) → Type 0
+IsJournalAccepted variant key header_block None None journal = ⊥
+IsJournalAccepted variant key header_block None (Some writes) journal = ⊤
+IsJournalAccepted variant key header_block (Some header) None journal = IsOfAnother (journal_beginning (layout_of variant key header)) journal → ⊥
+IsJournalAccepted variant key None (Some header) (Some writes) journal = ⊥
+IsJournalAccepted variant key (Some header_block) (Some header) (Some writes) journal = IsOfCommit (take (head_bytes variant) header_block) writes
 
 -- the journal is not whole: it has no writes under this key
 abbrev pub IsNotWhole : Variant → (key journal : List ℕ) → Type 0
@@ -171,9 +171,9 @@ RecoversOneUnlessOtherJournal file before now = RecoversUnder file.layout before
 -- ---- Which error a call returns. `of_source` has those that the source of nonces may return.
 
 -- reading failed
-abbrev pub IsReadError : PagesError → Type 0
-IsReadError (Read e) = ⊤
-IsReadError _ = ⊥
+abbrev pub IsStorageReadError : PagesError → Type 0
+IsStorageReadError (Read e) = ⊤
+IsStorageReadError _ = ⊥
 
 -- the source of nonces returned an error, or no memory was left
 abbrev pub IsSealError : (of_source : Error → Type 0) → PagesError → Type 0
@@ -200,7 +200,7 @@ IsCreateRefusal of_source page_bytes journal PageSize = IsPageSize page_bytes �
 IsCreateRefusal of_source page_bytes journal e = IsPageSize page_bytes × IsBeginRefusal of_source journal e
 
 -- page k of the file shows nothing
-abbrev pub ShowsNothing : Layout → Changes → ℕ → Option (List ℕ) → Type 0
+abbrev pub ShowsNothing : Layout → ChangedPages → ℕ → Option (List ℕ) → Type 0
 ShowsNothing layout changes k bytes = IfSome bytes (λ file. (m : List ℕ) → Shows layout (changes k) file k m → ⊥)
 
 -- reading failed, or a commit had failed
@@ -210,12 +210,12 @@ IsCommitmentRefusal broken Broken = broken ≡ true
 IsCommitmentRefusal broken _ = ⊥
 
 -- Reading failed, a page that begins before byte `end` of the contents shows nothing, or a commit had failed.
-abbrev pub IsReadRefusal : Bool → Layout → Changes → ℕ → Option (List ℕ) → PagesError → Type 0
+abbrev pub IsReadRefusal : Bool → Layout → ChangedPages → ℕ → Option (List ℕ) → PagesError → Type 0
 IsReadRefusal broken layout changes end bytes (Damaged k) = (k * layout.page_bytes < end) × ShowsNothing layout changes k bytes
 IsReadRefusal broken layout changes end bytes e = IsCommitmentRefusal broken e
 
 -- As of a read, for the pages before byte `len`; or the contents would end past their limit, or no memory was left.
-abbrev pub IsWriteRefusal : Bool → Layout → Changes → (len end : ℕ) → Option (List ℕ) → PagesError → Type 0
+abbrev pub IsWriteRefusal : Bool → Layout → ChangedPages → (len end : ℕ) → Option (List ℕ) → PagesError → Type 0
 IsWriteRefusal broken layout changes len end bytes (Damaged k) = (k * layout.page_bytes < len) × ShowsNothing layout changes k bytes
 IsWriteRefusal broken layout changes len end bytes TooLong = max_contents_bytes < end
 IsWriteRefusal broken layout changes len end bytes OutOfMemory = ⊤

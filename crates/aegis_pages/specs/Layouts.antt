@@ -55,8 +55,8 @@ unfoldable pub journal_beginning : Layout → List ℕ
 journal_beginning layout = named journal_magic layout ++ replicate (journal_beginning_bytes - plaintext_header_bytes) 0
 
 -- the associated data of the sealed page of a number
-unfoldable pub associated_data : Layout → ℕ → List ℕ
-associated_data layout number = plaintext_header layout ++ to_le_bytes w64 number
+unfoldable pub page_associated_data : Layout → ℕ → List ℕ
+page_associated_data layout number = plaintext_header layout ++ to_le_bytes w64 number
 
 -- the length of a nonce, which is that of a key
 abbrev pub nonce_bytes : Layout → ℕ
@@ -72,7 +72,7 @@ inner layout sealed = take (length sealed - (nonce_bytes layout + long_tag_bytes
 
 -- the sealed page opens to the contents m, under the file's variant, key and id at this number
 pub record OpensAt (layout : Layout) (number : ℕ) (sealed m : List ℕ) : Type 0 where
-  pub is : Opens layout.variant long_tag_bytes layout.key (take (nonce_bytes layout) sealed) (associated_data layout number) (inner layout sealed) (drop (length sealed - long_tag_bytes) sealed) m
+  pub is : Opens layout.variant long_tag_bytes layout.key (take (nonce_bytes layout) sealed) (page_associated_data layout number) (inner layout sealed) (drop (length sealed - long_tag_bytes) sealed) m
 
 -- where page k begins, after the block of the header
 abbrev pub page_place : Layout → ℕ → ℕ

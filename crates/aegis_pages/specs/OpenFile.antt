@@ -9,11 +9,11 @@ use Rattle.std.specs.BTreeMap.{is_at}
 use Rattle.aegis_storage.specs.Journal.{IsAtRest}
 
 -- the contents of pages that were changed since the last commit, by the numbers of the pages
-abbrev pub Changes : Type 0
-Changes = ℕ → Option (List ℕ)
+abbrev pub ChangedPages : Type 0
+ChangedPages = ℕ → Option (List ℕ)
 
 -- no page was changed
-abbrev pub unchanged : Changes
+abbrev pub unchanged : ChangedPages
 unchanged k = None
 
 -- Page k of the file shows the contents m: it was changed to m, or it is there whole and opens to m.
@@ -28,7 +28,7 @@ pub record IsPage (layout : Layout) (changed : Option (List ℕ)) (file : List �
   pub bytes : (i : ℕ) → i < layout.page_bytes → k * layout.page_bytes + i < length contents → slice_index message i ≡ slice_index contents (k * layout.page_bytes + i)
 
 -- the file, with its changes, has each page of the contents
-pub record ArePages (layout : Layout) (changes : Changes) (contents file : List ℕ) : Type 0 where
+pub record ArePages (layout : Layout) (changes : ChangedPages) (contents file : List ℕ) : Type 0 where
   pub page : (k : ℕ) → k * layout.page_bytes < length contents → IsPage layout (changes k) file k contents
 
 -- the file of contents: its header has the length, and the pages are the contents'
@@ -49,7 +49,7 @@ pub record IsFileOf (variant : Variant) (key contents file : List ℕ) : Type 0 
   pub is : IsSealed layout counter contents file
 
 -- Byte j of the contents is b, by the page of the file that has it.
-pub record IsByte (layout : Layout) (changes : Changes) (file : List ℕ) (j b : ℕ) : Type 0 where
+pub record IsByte (layout : Layout) (changes : ChangedPages) (file : List ℕ) (j b : ℕ) : Type 0 where
   pub message : List ℕ
   pub shows : Shows layout (changes (j / layout.page_bytes)) file (j / layout.page_bytes) message
   pub byte : b ≡ slice_index message (j % layout.page_bytes)
@@ -59,7 +59,7 @@ abbrev pub IsApart : ℕ → ℕ → ℕ → ℕ → Type 0
 IsApart page_bytes from end k = (k * page_bytes + page_bytes ≤ from) ⊎ (end ≤ k * page_bytes)
 
 -- only pages that have bytes from `from` up to `end` may have changed
-abbrev pub KeepsOthers : ℕ → ℕ → ℕ → Changes → Changes → Type 0
+abbrev pub KeepsOthers : ℕ → ℕ → ℕ → ChangedPages → ChangedPages → Type 0
 KeepsOthers page_bytes from end old new = (k : ℕ) → IsApart page_bytes from end k → new k ≡ old k
 
 -- ---- a file that is open
@@ -69,7 +69,7 @@ abbrev pub Plaintexts : Type 0
 Plaintexts = List (ℕ × List ℕ)
 
 -- the contents of a page
-abbrev pub contents_at : Plaintexts → Changes
+abbrev pub contents_at : Plaintexts → ChangedPages
 contents_at plaintexts k = lookup (is_at (nat_cmp k)) plaintexts
 
 -- What the file's sealed pages are sealed under, the counter and the length in its header, the length of the contents,

@@ -5,14 +5,14 @@ use Rattle.aegis_pages.specs.Layouts.{IsPageSize, Layout, OpensAt, max_contents_
 use Rattle.std.specs.BTreeMap.{BTreeMap}
 use Rattle.std.specs.List.{AllByRecursion}
 use Rattle.aegis_pages.specs.declared.changes.PageContents.{PageContents}
-use Rattle.aegis_pages.specs.OpenFile.{ArePages, Changes, Plaintexts, contents_at}
+use Rattle.aegis_pages.specs.OpenFile.{ArePages, ChangedPages, Plaintexts, contents_at}
 use Rattle.std.specs.declared.io.Error.{Error}
 use Rattle.aegis_pages.specs.declared.error.PagesError.{PagesError}
 use Rattle.aegis_pages.specs.declared.error.PagesError.TheVariants.{Read, Write, Nonce, Damaged, OutOfMemory, PageSize, Journal}
-use Rattle.aegis_pages.specs.Commits.{IsReadError, ShowsNothing}
+use Rattle.aegis_pages.specs.Commits.{IsStorageReadError, ShowsNothing}
 
 -- the pages of each contents that the file had are those of the contents with the part written over it
-abbrev pub WritesContents : Layout → ℕ → ℕ → List ℕ → Changes → Changes → List ℕ → Type 0
+abbrev pub WritesContents : Layout → ℕ → ℕ → List ℕ → ChangedPages → ChangedPages → List ℕ → Type 0
 WritesContents layout len at part old new file = (contents : List ℕ) → length contents ≡ len → ArePages layout old contents file → ArePages layout new (overwritten contents at part) file
 
 -- the length of each, and the contents
@@ -52,6 +52,6 @@ pub record IsCertain (P : List ℕ → Type 0) (state : Option Disk) : Type 0 wh
   pub so : P bytes
 
 -- Reading failed, or the page of this number shows nothing.
-abbrev pub IsShowRefusal : Layout → Changes → ℕ → Option (List ℕ) → PagesError → Type 0
+abbrev pub IsShowRefusal : Layout → ChangedPages → ℕ → Option (List ℕ) → PagesError → Type 0
 IsShowRefusal layout changes number bytes (Damaged k) = (k ≡ number) × ShowsNothing layout changes number bytes
-IsShowRefusal layout changes number bytes e = IsReadError e
+IsShowRefusal layout changes number bytes e = IsStorageReadError e

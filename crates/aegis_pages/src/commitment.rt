@@ -4,7 +4,7 @@
 //! over the newest header's counter and length, stands for the whole file.
 
 ghost use Rattle.std.specs.Prelude.{◌≡◌, ◌*◌, ◌≤◌, false, IfErr, IfOk, IfSome, OnOk};
-ghost use Rattle.aegis_pages.specs.Commits.{IsReadError, IsVerifyRefusal, commitment, page_tag};
+ghost use Rattle.aegis_pages.specs.Commits.{IsStorageReadError, IsVerifyRefusal, commitment, page_tag};
 
 use crate::error::PagesError;
 use crate::layout::{FileLayout, MAX_CONTENTS_BYTES, TAG_BYTES};
@@ -22,7 +22,7 @@ pub fn read_tag<S: Storage, L: LaneState, const KEY_BYTES: usize>(
     requires { number * layout.now.page_bytes ≤ MAX_CONTENTS_BYTES }
     ensures tag { IfOk result (λ tag. IfSome (S.bytes storage.now)
         (λ file. tag ≡ page_tag layout.now file number)) }
-    ensures refused { IfErr result IsReadError }
+    ensures refused { IfErr result IsStorageReadError }
 {
     let before_tag = layout.nonce_bytes() as u64 + layout.page_bytes() as u64;
     let place = layout.page_place(number) + before_tag;
@@ -44,7 +44,7 @@ pub fn file_commitment<S: Storage, L: SavedLanes, const KEY_BYTES: usize>(
     requires { len ≤ MAX_CONTENTS_BYTES }
     ensures is { IfOk result (λ mac. IfSome (S.bytes storage.now)
         (λ file. mac ≡ commitment layout.now counter len file)) }
-    ensures refused { IfErr result IsReadError }
+    ensures refused { IfErr result IsStorageReadError }
 {
     // A saved context and no `Mac`: a function that is generic in the key's length would owe a proof that a `Mac` fits
     // in memory.

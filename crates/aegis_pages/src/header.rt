@@ -4,7 +4,7 @@ ghost use Rattle.std.specs.Prelude.{◌≡◌, ◌+◌, ◌<◌, ◌≤◌, ◌^
 ghost use Rattle.std.specs.Int.{to_le_bytes, w64};
 ghost use Rattle.aegis_base.specs.Variant.{key_length};
 ghost use Rattle.aegis_storage.specs.Disk.{part_at};
-ghost use Rattle.aegis_pages.specs.Commits.{IsReadError};
+ghost use Rattle.aegis_pages.specs.Commits.{IsStorageReadError};
 ghost use Rattle.aegis_pages.specs.Layouts.{HasNoHeader, IsHeaderBlock, header_plaintext, IsPageSize, Layout, OpensAt, sealed_bytes, nonce_bytes, HasHeader, layout_of};
 
 use crate::error::PagesError;
@@ -131,7 +131,7 @@ pub fn read_header_block<S: Storage>(
         × (header_block ≡ part_at file 0 HEADER_BLOCK_BYTES)))) }
     ensures short { IfOk result (λ found. IfNone found (IfSome (S.bytes storage.now)
         (λ file. length file < HEADER_BLOCK_BYTES))) }
-    ensures refused { IfErr result IsReadError }
+    ensures refused { IfErr result IsStorageReadError }
 {
     match storage.size() {
         Ok(size) => {
@@ -159,7 +159,7 @@ pub fn read_header<S: Storage, L: LaneState, const KEY_BYTES: usize>(
         HasHeader L.VARIANT key.now header (S.bytes storage.now))) }
     ensures none { IfOk result (λ found. IfNone found
         (IfSome (S.bytes storage.now) (HasNoHeader L.VARIANT key.now))) }
-    ensures refused { IfErr result IsReadError }
+    ensures refused { IfErr result IsStorageReadError }
 {
     let Some(mut header_block) = read_header_block(storage)? else {
         return Ok(None);

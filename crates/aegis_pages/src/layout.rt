@@ -3,7 +3,7 @@
 ghost use Rattle.std.specs.Prelude.{◌≡◌, ◌+◌, ◌*◌, ◌<◌, ◌≤◌, ◌↔◌, IfSome, IsSome, IsTrue, length, ℕ};
 ghost use Rattle.aegis_base.specs.Variant.{key_length};
 ghost use Rattle.aegis_pages.specs.Commits.{page_count};
-ghost use Rattle.aegis_pages.specs.Layouts.{IsPageSize, Layout, associated_data, sealed_bytes, plaintext_header, journal_beginning, named, nonce_bytes, page_place, variant_byte};
+ghost use Rattle.aegis_pages.specs.Layouts.{IsPageSize, Layout, page_associated_data, sealed_bytes, plaintext_header, journal_beginning, named, nonce_bytes, page_place, variant_byte};
 
 use aegis_aes::Row;
 use aegis_base::LaneState;
@@ -183,7 +183,7 @@ impl<L: LaneState, const KEY_BYTES: usize> FileLayout<L, KEY_BYTES> {
     /// Returns the associated data of the page of a number, or of a header.
     #[tactic(auto, unfolding(crate::specs::Layouts::associated_data))]
     pub fn associated_data(&self, number: u64) -> [u8; 41]
-        ensures { result ≡ associated_data self.now number }
+        ensures { result ≡ page_associated_data self.now number }
     {
         array_of(&[&self.plaintext_header(), &number.to_le_bytes()])
     }

@@ -3,8 +3,8 @@
 ghost use Rattle.std.specs.Prelude.{◌≡◌, ◌≢◌, ◌+◌, ◌≤◌, ◌↔◌, [], Err, IfErr, IfNone, IfOk, IfSome, IsOk, IsTrue, List, None, OnOk, Option, Some, length, option_map, take, ℕ};
 ghost use Rattle.aegis_base.specs.Variant.{key_length};
 ghost use Rattle.aegis_storage.specs.Disk.{Writes};
-ghost use Rattle.aegis_storage.specs.Journal.{AreWithin, entries};
-ghost use Rattle.aegis_pages.specs.Commits.{AreWritesOf, BeginsWith, EndsWith, Fits, IsAccepted, IsLeftAlone, IsLeftByCommit, IsOfAnother, IsOfCommit, IsOpenRefusal, MakesNoOther, RecoversContentsUnlessOtherJournal, RestsAtContents, journal_key};
+ghost use Rattle.aegis_storage.specs.Journal.{AreWithinStorage, entries};
+ghost use Rattle.aegis_pages.specs.Commits.{AreWritesOf, BeginsWith, EndsWith, Fits, IsJournalAccepted, IsLeftAlone, IsLeftByCommit, IsOfAnother, IsOfCommit, IsOpenRefusal, MakesNoOther, RecoversContentsUnlessOtherJournal, RestsAtContents, journal_key};
 ghost use Rattle.aegis_pages.specs.Layouts.{IsPageSize, HasHeader};
 
 use crate::error::PagesError;
@@ -41,7 +41,7 @@ fn begins_with(place: u64, bytes: &[u8], head: &[u8]) -> bool
 
 // Returns whether the first write in the content of a journal makes a file begin with these bytes.
 fn is_begun_by(head: &[u8], content: &[u8]) -> bool
-    ensures { (writes : Writes) → AreWithin writes → content.now ≡ entries writes
+    ensures { (writes : Writes) → AreWithinStorage writes → content.now ≡ entries writes
         → IsTrue result ↔ BeginsWith head.now writes }
 {
     match first_write(content) {
@@ -52,7 +52,7 @@ fn is_begun_by(head: &[u8], content: &[u8]) -> bool
 
 // Returns whether the last write does.
 fn is_ended_by(head: &[u8], content: &[u8]) -> bool
-    ensures { (writes : Writes) → AreWithin writes → content.now ≡ entries writes
+    ensures { (writes : Writes) → AreWithinStorage writes → content.now ≡ entries writes
         → IsTrue result ↔ EndsWith head.now writes }
 {
     let mut rest = content;
@@ -71,7 +71,7 @@ fn is_ended_by(head: &[u8], content: &[u8]) -> bool
 // of before, or that of after it, whose last write is of the next header. The writes are those in the content of a
 // journal.
 fn is_of_commit(head: &[u8], content: &[u8]) -> bool
-    ensures { (writes : Writes) → AreWithin writes → content.now ≡ entries writes
+    ensures { (writes : Writes) → AreWithinStorage writes → content.now ≡ entries writes
         → IsTrue result ↔ IsOfCommit head.now writes }
 {
     is_begun_by(head, content) || is_ended_by(head, content)
@@ -101,7 +101,8 @@ pub fn is_accepted<L: LaneState, const KEY_BYTES: usize>(
     requires key_bytes { KEY_BYTES ≡ key_length L.VARIANT.family }
     requires size { IfSome header (λ header. IsPageSize header.page_bytes) }
     ensures { (writes : Option Writes) → AreWritesOf writes (option_map (λ c. c.now) content.entry)
-        → IsTrue result ↔ IsAccepted L.VARIANT key.now header_block header writes journal.now }
+        → IsTrue result
+        ↔ IsJournalAccepted L.VARIANT key.now header_block header writes journal.now }
 {
     let Some(header) = header else {
         return content.is_some();

@@ -4,7 +4,7 @@
 
 ghost use Rattle.std.specs.Prelude.{◌≡◌, ◌+◌, ◌*◌, ◌-◌, ◌≤◌, ◌⊎◌, ◌^◌, IfErr, IfOk, IfSome, List, OnOk, length, take, true, ℕ};
 ghost use Rattle.aegis_pages.specs.Layouts.{OpensAt, sealed_bytes, inner, nonce_bytes, page_at, page_place};
-ghost use Rattle.aegis_pages.specs.Commits.{IsReadError, IsSealError};
+ghost use Rattle.aegis_pages.specs.Commits.{IsStorageReadError, IsSealError};
 
 use crate::draws::Nonces;
 use crate::error::PagesError;
@@ -80,7 +80,7 @@ pub fn read_page<S: Storage, L: LaneState, const KEY_BYTES: usize>(
     ensures only { OnOk result (IfSome (S.bytes storage.now) (λ file. (m : List ℕ)
         → OpensAt layout.now number (page_at layout.now file number) m
         → inner layout.now page.new ≡ m)) }
-    ensures refused { IfErr result (λ e. IsReadError e ⊎ ((e ≡ PagesError.Damaged number)
+    ensures refused { IfErr result (λ e. IsStorageReadError e ⊎ ((e ≡ PagesError.Damaged number)
         × IfSome (S.bytes storage.now) (λ file. (m : List ℕ)
         → OpensAt layout.now number (page_at layout.now file number) m → ⊥))) }
 {

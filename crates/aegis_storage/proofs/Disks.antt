@@ -2,7 +2,7 @@
 use Rattle.std.specs.Prelude.{⊤}
 use Rattle.std.proofs.Common.{◌≡◌, ℕ, ◌+◌, ◌<◌, ◌≤◌, ◌⊎◌, inl, inr, List, [], ◌∷◌, ◌++◌, None, Some, OnErr, OnOk, Option, Result, Ok, Err, get_or, length, max, refl, sym, subst, ap, ◌∙◌, arith}
 use Rattle.std.proofs.lemmas.List.{append-nil, append_assoc, ext_get_or}
-use Rattle.aegis_storage.specs.Disk.{AreLeftOf, AreParts, Change, CrashLeaves, Crashed, Disk, IsPart, IsPartOfOne, IsPossible, IsWithin, MakesSynced, SettlesTo, Size, Write, Writes, after, after_writes, applied, certain, changed, changes, overwritten, resized, spoilt}
+use Rattle.aegis_storage.specs.Disk.{AreLeftOf, AreParts, Change, CrashLeaves, Crashed, Disk, IsPart, IsPartOfOne, IsPossible, IsWithin, MakesSynced, SettlesTo, Size, Write, Writes, disk_after, after_writes, applied, certain, changed, changes, overwritten, resized, spoilt}
 use Rattle.aegis_storage.specs.Steps.{LeavesNoMore}
 use Rattle.aegis_storage.proofs.Overwriting.{after_part, before_part, length-overwritten, within_part}
 
@@ -49,7 +49,7 @@ applied_append (change ∷ first) second xs = applied_append first second (chang
 
 -- What holds of the synced bytes, and then after each part of a pending change, holds after a crash.
 pub after_parts : (P : List ℕ → Type 0) (xs : List ℕ) (more : List Change) → ((part : Change) (ys : List ℕ) → IsPartOfOne more part → P ys → P (changed part ys)) → P xs
-    → (bytes : List ℕ) → Crashed (after (certain xs) more) bytes → P bytes
+    → (bytes : List ℕ) → Crashed (disk_after (certain xs) more) bytes → P bytes
 after_parts P xs more step first bytes crashed = rw (crashed.are, crashed.of_lost) (all crashed.parts xs crashed.of_pending first)
   where
     all : (parts : List Change) (ys : List ℕ) → AreParts more parts → P ys → P (applied parts ys)
@@ -69,7 +69,7 @@ pub has_left : (P : List ℕ → Type 0) (state : Option Disk) (disk : Disk) (by
 has_left P state disk bytes leaves is crashed = leaves.has bytes (let same : disk ≡ leaves.disk = (let also = leaves.is in cc) in rw same at crashed)
 
 -- a crash leaves some of the pending changes, and those that are pending besides them
-pub crashed_more : (disk : Disk) (more : List Change) (bytes : List ℕ) → Crashed disk bytes → Crashed (after disk more) bytes
+pub crashed_more : (disk : Disk) (more : List Change) (bytes : List ℕ) → Crashed disk bytes → Crashed (disk_after disk more) bytes
 crashed_more disk more bytes crashed = record {
   base = crashed.base;
   of_lost = crashed.of_lost;
@@ -106,10 +106,10 @@ on_err (Err e) p = p
 
 -- ---- a disk within another
 
-pub no_more : (disk : Disk) → after disk [] ≡ disk
+pub no_more : (disk : Disk) → disk_after disk [] ≡ disk
 no_more disk = rw append-nil refl
 
-pub after_after : (disk : Disk) (more rest : List Change) → after (after disk more) rest ≡ after disk (more ++ rest)
+pub after_after : (disk : Disk) (more rest : List Change) → disk_after (disk_after disk more) rest ≡ disk_after disk (more ++ rest)
 after_after disk more rest = rw append_assoc refl
 
 pub within_itself : (disk : Disk) → IsWithin disk disk
@@ -129,7 +129,7 @@ pub within_settles : (a b : Disk) (bytes : List ℕ) → IsWithin a b → Settle
 within_settles a b bytes p settled =
     subst (λ (d : Disk). SettlesTo d bytes) (no_more a) (p.settles [] bytes (subst (λ (d : Disk). SettlesTo d bytes) (sym (no_more b)) settled))
 
-pub within_after : (a b : Disk) (more : List Change) → IsWithin a b → IsWithin (after a more) (after b more)
+pub within_after : (a b : Disk) (more : List Change) → IsWithin a b → IsWithin (disk_after a more) (disk_after b more)
 within_after a b more p = record {
   also = λ rest bytes crashed.
       subst (λ (d : Disk). Crashed d bytes) (sym (after_after b more rest)) (p.also (more ++ rest) bytes (subst (λ (d : Disk). Crashed d bytes) (after_after a more rest) crashed));
@@ -216,7 +216,7 @@ certain_within disk xs left = record {
 
 -- ---- what a sync makes certain
 
-pub settles_after : (xs : List ℕ) (more : List Change) → SettlesTo (after (certain xs) more) (applied more xs)
+pub settles_after : (xs : List ℕ) (more : List Change) → SettlesTo (disk_after (certain xs) more) (applied more xs)
 settles_after xs more base left = ap (applied more) left
 
 pub settles_certain : (xs : List ℕ) → SettlesTo (certain xs) xs
@@ -230,7 +230,7 @@ pub resized_none : (xs : List ℕ) → resized xs 0 ≡ []
 resized_none xs = grind arith
 
 -- a journal that is emptied, whatever was lost of it
-pub settles_emptied : (disk : Disk) → SettlesTo (after disk (Size 0 ∷ [])) []
+pub settles_emptied : (disk : Disk) → SettlesTo (disk_after disk (Size 0 ∷ [])) []
 settles_emptied disk base left = applied_append disk.pending (Size 0 ∷ []) base ∙ resized_none (applied disk.pending base)
 
 -- after any part of it, with nothing else pending, the journal is as it was, or empty
@@ -245,7 +245,7 @@ emptied_parts (Size n ∷ parts) xs are = elim are.0 [
   | inr none ↦ absurd none
 ]
 
-pub emptied : (disk : Disk) (bytes : List ℕ) → disk.pending ≡ [] → Crashed (after disk (Size 0 ∷ [])) bytes → Crashed disk bytes ⊎ (bytes ≡ [])
+pub emptied : (disk : Disk) (bytes : List ℕ) → disk.pending ≡ [] → Crashed (disk_after disk (Size 0 ∷ [])) bytes → Crashed disk bytes ⊎ (bytes ≡ [])
 emptied disk bytes none crashed = elim (emptied_parts crashed.parts crashed.base (rw none at crashed.of_pending)) [
   | inl same ↦ inl (record { base = crashed.base; of_lost = crashed.of_lost; parts = []; of_pending = tt; are = crashed.are ∙ same })
   | inr empty ↦ inr (crashed.are ∙ empty)
@@ -254,7 +254,7 @@ emptied disk bytes none crashed = elim (emptied_parts crashed.parts crashed.base
 -- ---- vectors
 
 -- certain bytes, after a change that is made at once
-pub made : (xs zs : List ℕ) (change : Change) → zs ≡ changed change xs → IsWithin (certain zs) (after (certain xs) (change ∷ []))
+pub made : (xs zs : List ℕ) (change : Change) → zs ≡ changed change xs → IsWithin (certain zs) (disk_after (certain xs) (change ∷ []))
 made xs zs change is = record {
   also = λ rest bytes crashed. record {
     base = xs;
@@ -267,7 +267,7 @@ made xs zs change is = record {
 }
 
 -- and after a call that failed
-pub unmade : (xs zs : List ℕ) (more : List Change) → zs ≡ xs → IsWithin (certain zs) (spoilt (after (certain xs) more))
+pub unmade : (xs zs : List ℕ) (more : List Change) → zs ≡ xs → IsWithin (certain zs) (spoilt (disk_after (certain xs) more))
 unmade xs zs more same = record {
   also = λ rest bytes crashed. record {
     base = zs;

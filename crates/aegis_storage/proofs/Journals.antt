@@ -5,8 +5,8 @@ use Rattle.std.proofs.lemmas.List.{append-nil, append_assoc, map-append, take-ap
 use Rattle.std.proofs.lemmas.Nat.{from_le_bytes-to_le_bytes_8}
 use Rattle.std.specs.Int.{to_le_bytes, w64}
 use Rattle.aegis_storage.specs.declared.pending.PendingWrite.{PendingWrite}
-use Rattle.aegis_storage.specs.Journal.{AreWithin, entries, entry, Gives, GivesOneOf, IsAtRest, IsFramed, IsJournal, IsOneOf, IsNoOtherJournal, IsSafe, RecoversUnlessOtherJournal, RecoversKnown, authenticated, HasBeginning, KeepsBeginning, framed, journal_length}
-use Rattle.aegis_storage.specs.Disk.{writes_of, Crashed, Disk, IsWithin, Size, Writes, WritesAll, certain, changes, after_writes, Change, IsPartOfOne, Write, after, changed}
+use Rattle.aegis_storage.specs.Journal.{AreWithinStorage, entries, entry, Gives, GivesOneOf, IsAtRest, IsFramed, IsJournal, IsOneOf, IsNoOtherJournal, IsSafe, RecoversUnlessOtherJournal, RecoversKnown, authenticated, HasBeginning, KeepsBeginning, framed, journal_length}
+use Rattle.aegis_storage.specs.Disk.{writes_of, Crashed, Disk, IsWithin, Size, Writes, WritesAll, certain, changes, after_writes, Change, IsPartOfOne, Write, disk_after, changed}
 use Rattle.aegis_base.specs.Mac.{mac}
 use Rattle.aegis_base.specs.Variant.{Aegis128L}
 use Rattle.aegis_base.proofs.MacFacts.{length_mac}
@@ -23,7 +23,7 @@ writes_taken writes i write bs low is same = grind (arith, common_steps, map-app
 pub writes_split : {A : Type 0} (writes : List (PendingWrite A)) (i : ℕ) → writes_of writes ≡ writes_of (take i writes) ++ writes_of (drop i writes)
 writes_split writes i = rw (← map-append, take-append-drop i writes)
 
-pub all_within : {A : Type 0} (writes : List (PendingWrite A)) → AreWithin (writes_of writes)
+pub all_within : {A : Type 0} (writes : List (PendingWrite A)) → AreWithinStorage (writes_of writes)
 all_within [] = tt
 all_within (write ∷ writes) = (write.within, all_within writes)
 
@@ -59,7 +59,7 @@ same_entry v w xs ys low high same =
     let bytes = same_parts (length v.1) v.1 w.1 xs ys refl (sym count.0) count.1 in
     (ap (λ (n : ℕ). (n, v.1)) place.0 ∙ ap (λ (l : List ℕ). (w.0, l)) bytes.0, bytes.1)
 
-pub same_writes : (vs ws : Writes) → AreWithin vs → AreWithin ws → entries vs ≡ entries ws → vs ≡ ws
+pub same_writes : (vs ws : Writes) → AreWithinStorage vs → AreWithinStorage ws → entries vs ≡ entries ws → vs ≡ ws
 same_writes [] [] p q same = refl
 same_writes [] (w ∷ ws) p q same = absurd (let sizes : 0 ≡ length (entries (w ∷ ws)) = ap length same in omega (arith, sizes))
 same_writes (v ∷ vs) [] p q same = absurd (let sizes : length (entries (v ∷ vs)) ≡ 0 = ap length same in omega (arith, sizes))
@@ -68,7 +68,7 @@ same_writes (v ∷ vs) (w ∷ ws) p q same =
 
 -- what is left behind some writes begins with no write, so the whole is of no writes
 pub no_writes : (done : Writes) (rest : List ℕ) (writes : Writes) → 0 < length rest → ((write : ℕ × List ℕ) (after : List ℕ) → write.0 + length write.1 ≤ MAX_STORAGE_BYTES → rest ≡ entry write ++ after → ⊥)
-    → AreWithin done → AreWithin writes → entries done ++ rest ≡ entries writes → ⊥
+    → AreWithinStorage done → AreWithinStorage writes → entries done ++ rest ≡ entries writes → ⊥
 no_writes [] rest [] some none p q same = omega (arith, some, ap length same)
 no_writes [] rest (w ∷ ws) some none p q same = none w (entries ws) q.0 same
 no_writes (v ∷ vs) rest [] some none p q same = let sizes : length (entries (v ∷ vs) ++ rest) ≡ 0 = ap length same in omega (arith, sizes)
@@ -107,7 +107,7 @@ empty_is_none key context writes is = let long : 560 ≤ 0 = length-framed key c
 
 -- ---- the writes in the content of a journal
 
-pub within_more : (writes : Writes) (write : ℕ × List ℕ) → AreWithin writes → write.0 + length write.1 ≤ MAX_STORAGE_BYTES → AreWithin (writes ++ write ∷ [])
+pub within_more : (writes : Writes) (write : ℕ × List ℕ) → AreWithinStorage writes → write.0 + length write.1 ≤ MAX_STORAGE_BYTES → AreWithinStorage (writes ++ write ∷ [])
 within_more [] write p low = (low, tt)
 within_more (w ∷ ws) write p low = (p.0, within_more ws write p.1 low)
 
@@ -119,8 +119,8 @@ pub entries_found : (done : Writes) (write : ℕ × List ℕ) (rest after conten
 entries_found done write rest after content is all = rw (entries_more done write, append_assoc, ← is) all
 
 -- the writes that are left behind some of them
-pub left_writes : (done writes : Writes) (rest : List ℕ) → AreWithin done → AreWithin writes → entries done ++ rest ≡ entries writes
-    → (left : Writes) × (writes ≡ done ++ left) × AreWithin left × (rest ≡ entries left)
+pub left_writes : (done writes : Writes) (rest : List ℕ) → AreWithinStorage done → AreWithinStorage writes → entries done ++ rest ≡ entries writes
+    → (left : Writes) × (writes ≡ done ++ left) × AreWithinStorage left × (rest ≡ entries left)
 left_writes [] writes rest p q same = (writes, refl, q, same)
 left_writes (v ∷ vs) [] rest p q same = absurd (let sizes : length (entries (v ∷ vs) ++ rest) ≡ 0 = ap length same in omega (arith, sizes))
 left_writes (v ∷ vs) (w ∷ ws) rest p q same =
@@ -134,7 +134,7 @@ all_done done [] content none all = sym all ∙ append-nil (entries done)
 all_done done (x ∷ xs) content some all = absurd (omega (arith, some))
 
 -- no writes are left behind nothing
-pub all_writes : (done writes : Writes) (rest : List ℕ) → length rest ≡ 0 → AreWithin done → AreWithin writes → entries done ++ rest ≡ entries writes → writes ≡ done
+pub all_writes : (done writes : Writes) (rest : List ℕ) → length rest ≡ 0 → AreWithinStorage done → AreWithinStorage writes → entries done ++ rest ≡ entries writes → writes ≡ done
 all_writes done writes [] none p q same = same_writes writes done q p (sym same ∙ append-nil (entries done))
 all_writes done writes (x ∷ xs) some p q same = absurd (omega (arith, some))
 
@@ -250,7 +250,7 @@ follows_part xs all (Write at bs) ys (inl is) before =
 follows_part xs all (Size n) ys (inl is) before = absurd is
 follows_part xs all part ys (inr is) before = absurd is
 
-follows : (xs all : List ℕ) (bytes : List ℕ) → Crashed (after (certain xs) (Write (length xs) all ∷ [])) bytes → Follows xs (length all) bytes
+follows : (xs all : List ℕ) (bytes : List ℕ) → Crashed (disk_after (certain xs) (Write (length xs) all ∷ [])) bytes → Follows xs (length all) bytes
 follows xs all bytes crashed =
     after_parts (Follows xs (length all)) xs (Write (length xs) all ∷ []) (follows_part xs all) (record { first = take_all (length xs) xs (omega arith); most = omega arith }) bytes crashed
 
@@ -267,7 +267,7 @@ pub certain_begins : (beginning js : List ℕ) → HasBeginning beginning js →
 certain_begins beginning js has ks crashed = rw (certain_only js ks crashed) has
 
 -- while a journal is emptied
-pub emptied_begins : (beginning : List ℕ) (journal : Disk) → journal.pending ≡ [] → BeginsAs beginning journal → BeginsAs beginning (after journal (Size 0 ∷ []))
+pub emptied_begins : (beginning : List ℕ) (journal : Disk) → journal.pending ≡ [] → BeginsAs beginning journal → BeginsAs beginning (disk_after journal (Size 0 ∷ []))
 emptied_begins beginning journal nothing begins js crashed = cases (emptied journal js nothing crashed)
   where
     cases : Crashed journal js ⊎ (js ≡ []) → HasBeginning beginning js
@@ -278,11 +278,11 @@ pub empty_beginning : (beginning : List ℕ) (state : Option Disk) → state ≡
 empty_beginning beginning state is = certain_has (HasBeginning beginning) state [] (inl (omega arith)) is
 
 -- while the beginning is written
-pub beginning_begins : (beginning part : List ℕ) → length part ≤ 512 → BeginsAs beginning (after (certain []) (Write 0 part ∷ []))
+pub beginning_begins : (beginning part : List ℕ) → length part ≤ 512 → BeginsAs beginning (disk_after (certain []) (Write 0 part ∷ []))
 beginning_begins beginning part short js crashed = let most = (follows [] part js crashed).most in inl (omega (arith, most, short))
 
 -- while the rest is written
-pub beginning_stays : (beginning rest : List ℕ) → length beginning ≡ 512 → BeginsAs beginning (after (certain beginning) (Write 512 rest ∷ []))
+pub beginning_stays : (beginning rest : List ℕ) → length beginning ≡ 512 → BeginsAs beginning (disk_after (certain beginning) (Write 512 rest ∷ []))
 beginning_stays beginning rest long js crashed = inr (rw long at ((follows beginning rest js (rw long crashed)).first))
 
 pub crashed_beginning : (beginning : List ℕ) (journal : Disk) (js : List ℕ) → KeepsBeginning beginning (Some journal) → Crashed journal js → KeepsBeginning beginning (Some (certain js))

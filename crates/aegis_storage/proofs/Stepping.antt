@@ -4,10 +4,10 @@ use Rattle.std.proofs.lemmas.List.{drop_all, length-append, take_all}
 use Rattle.std.proofs.Math.Seq.{drop-cons, take-suc}
 use Rattle.std.specs.Io.KnownBytes.{Keeps}
 use Rattle.std.specs.List.{range_with_len}
-use Rattle.aegis_storage.specs.Disk.{Adds, Disk, IfKnown, IsWithin, MakesSynced, Spoils, Write, Writes, WritesAll, WritesAt, after, after_writes, changed, spoilt}
-use Rattle.aegis_storage.specs.Journal.{AreWithin, RecoversKnown, entries, entry}
-use Rattle.aegis_storage.specs.Steps.{AreRedone, Changes, Does, Effect, Held, Leaves, Nothing, Replaces, StopsAt, Syncs, Taken, held, journal_effect, step_at, steps_of, storage_effect, write_of, writing_steps}
-use Rattle.aegis_storage.specs.Private.{Fails, Has, IsNext, Knows, LeavesOne, made_with}
+use Rattle.aegis_storage.specs.Disk.{Adds, Disk, IfKnown, IsWithin, MakesSynced, Spoils, Write, Writes, WritesAll, WritesAt, disk_after, after_writes, changed, spoilt}
+use Rattle.aegis_storage.specs.Journal.{AreWithinStorage, RecoversKnown, entries, entry}
+use Rattle.aegis_storage.specs.Steps.{AreRedone, Changes, Does, Effect, StorageState, Leaves, Nothing, Replaces, StopsAt, Syncs, Taken, certain_state, journal_effect, step_at, steps_of, storage_effect, write_of, writing_steps}
+use Rattle.aegis_storage.specs.Private.{Fails, Succeeds, IsNext, Knows, LeavesOne, made_with}
 use Rattle.aegis_storage.specs.declared.steps.Order.{Order}
 use Rattle.aegis_storage.specs.declared.steps.Order.TheVariants.{Commit, Recovery}
 use Rattle.aegis_storage.specs.declared.steps.Step.{Step}
@@ -21,8 +21,8 @@ use Rattle.aegis_storage.proofs.Taking.{failed_changes, failed_syncs, not_begun,
 -- ---- one call
 
 -- the bytes and the disk are known, and are something of which P holds
-pub record KnowsOne (P : Held → Type 0) (bytes : Option (List ℕ)) (disk : Option Disk) : Type 0 where
-  pub new : Held
+pub record KnowsOne (P : StorageState → Type 0) (bytes : Option (List ℕ)) (disk : Option Disk) : Type 0 where
+  pub new : StorageState
   pub is : Knows new bytes disk
   pub so : P new
 
@@ -40,24 +40,24 @@ known {X = X} R x a b is k = cases b (rw is at k)
     cases None p = absurd p
     cases (Some y) p = (y, refl, p)
 
-pub known_does : (effect : Effect) (h : Held) (b b' : Option (List ℕ)) (d d' : Option Disk) → Has effect b b' d d' → Knows h b d → KnowsOne (Does effect h) b' d'
+pub known_does : (effect : Effect) (h : StorageState) (b b' : Option (List ℕ)) (d d' : Option Disk) → Succeeds effect b b' d d' → Knows h b d → KnowsOne (Does effect h) b' d'
 known_does Nothing h b b' d d' has is = record { new = h; is = (has.0 ∙ is.0, has.1 ∙ is.1); so = refl }
 known_does (Changes change) h b b' d d' has is =
     let bytes = known (λ xs ys. ys ≡ changed change xs) h.bytes b b' is.0 has.0 in
-    let disk = known (λ disk now. IsWithin now (after disk (change ∷ []))) h.disk d d' is.1 has.1 in
+    let disk = known (λ disk now. IsWithin now (disk_after disk (change ∷ []))) h.disk d d' is.1 has.1 in
     record { new = record { bytes = bytes.0; disk = disk.0 }; is = (bytes.1, disk.1); so = (bytes.2, disk.2) }
 known_does Syncs h b b' d d' has is =
     let disk = known MakesSynced h.disk d d' is.1 has.1 in record { new = record { bytes = h.bytes; disk = disk.0 }; is = (kept h.bytes b b' is.0 has.0, disk.1); so = (refl, disk.2) }
-known_does Replaces h b b' d d' has is = record { new = held h.bytes; is = (kept h.bytes b b' is.0 has.0, has.1 h.disk h.bytes is.1 is.0); so = refl }
+known_does Replaces h b b' d d' has is = record { new = certain_state h.bytes; is = (kept h.bytes b b' is.0 has.0, has.1 h.disk h.bytes is.1 is.0); so = refl }
 
-spoilt_now : (h : Held) (d d' : Option Disk) → d ≡ Some h.disk → Spoils d d' [] → (now : Disk) × (d' ≡ Some now) × IsWithin now (spoilt h.disk)
+spoilt_now : (h : StorageState) (d d' : Option Disk) → d ≡ Some h.disk → Spoils d d' [] → (now : Disk) × (d' ≡ Some now) × IsWithin now (spoilt h.disk)
 spoilt_now h d d' is spoils =
-    let now = known (λ disk now. IsWithin now (spoilt (after disk []))) h.disk d d' is spoils in (now.0, now.1, subst (λ (k : Disk). IsWithin now.0 (spoilt k)) (no_more h.disk) now.2)
+    let now = known (λ disk now. IsWithin now (spoilt (disk_after disk []))) h.disk d d' is spoils in (now.0, now.1, subst (λ (k : Disk). IsWithin now.0 (spoilt k)) (no_more h.disk) now.2)
 
-pub known_leaves : (effect : Effect) (h : Held) (d d' : Option Disk) → Fails effect d d' → d ≡ Some h.disk → LeavesOne (Leaves effect h) d'
+pub known_leaves : (effect : Effect) (h : StorageState) (d d' : Option Disk) → Fails effect d d' → d ≡ Some h.disk → LeavesOne (Leaves effect h) d'
 known_leaves Nothing h d d' fails is = record { new = h; is = fails ∙ is; so = refl }
 known_leaves (Changes change) h d d' fails is =
-    let now = known (λ disk now. IsWithin now (spoilt (after disk (change ∷ [])))) h.disk d d' is fails in
+    let now = known (λ disk now. IsWithin now (spoilt (disk_after disk (change ∷ [])))) h.disk d d' is fails in
     record { new = record { bytes = h.bytes; disk = now.0 }; is = now.1; so = failed_changes change h (record { bytes = h.bytes; disk = now.0 }) now.2 }
 known_leaves Syncs h d d' fails is =
     let now = spoilt_now h d d' is fails in record { new = record { bytes = h.bytes; disk = now.0 }; is = now.1; so = failed_syncs h (record { bytes = h.bytes; disk = now.0 }) now.2 }
@@ -147,7 +147,7 @@ is_next Recovery (suc n) zero = tt
 is_next Recovery (suc n) (suc zero) = tt
 is_next Recovery (suc n) (suc (suc m)) = writing_next (suc n) m
 
-within_at : (found : Writes) (i : ℕ) → AreWithin found → i < length found → (get_or found i (0, [])).0 + length (get_or found i (0, [])).1 ≤ MAX_STORAGE_BYTES
+within_at : (found : Writes) (i : ℕ) → AreWithinStorage found → i < length found → (get_or found i (0, [])).0 + length (get_or found i (0, [])).1 ≤ MAX_STORAGE_BYTES
 within_at [] i within low = absurd (omega (arith, low))
 within_at (write ∷ found) zero within low = within.0
 within_at (write ∷ found) (suc i) within low = within_at found i within.1 (omega (arith, low))
@@ -157,12 +157,12 @@ pub next_entries : (found : Writes) (made : ℕ) (rest : List ℕ) → rest ≡ 
 next_entries found made rest is low = is ∙ ap entries (drop-cons found made (0, []) low)
 
 -- it is found
-pub next_found : (found : Writes) (made : ℕ) (rest : List ℕ) (write : ℕ × List ℕ) (after : List ℕ) → AreWithin found → rest ≡ entries (drop made found) → made < length found
+pub next_found : (found : Writes) (made : ℕ) (rest : List ℕ) (write : ℕ × List ℕ) (after : List ℕ) → AreWithinStorage found → rest ≡ entries (drop made found) → made < length found
     → write.0 + length write.1 ≤ MAX_STORAGE_BYTES → rest ≡ entry write ++ after → (write ≡ get_or found made (0, [])) × (after ≡ entries (drop (suc made) found))
 next_found found made rest write after within is low fits split =
     same_entry write (get_or found made (0, [])) after (entries (drop (suc made) found)) fits (within_at found made within low) (sym split ∙ next_entries found made rest is low)
 
-pub next_missed : (found : Writes) (made : ℕ) (rest : List ℕ) → AreWithin found → rest ≡ entries (drop made found) → made < length found
+pub next_missed : (found : Writes) (made : ℕ) (rest : List ℕ) → AreWithinStorage found → rest ≡ entries (drop made found) → made < length found
     → ((write : ℕ × List ℕ) (after : List ℕ) → write.0 + length write.1 ≤ MAX_STORAGE_BYTES → rest ≡ entry write ++ after → ⊥) → ⊥
 next_missed found made rest within is low none = none (get_or found made (0, [])) (entries (drop (suc made) found)) (within_at found made within low) (next_entries found made rest is low)
 
@@ -216,7 +216,7 @@ made_all Recovery zero = refl
 made_all Recovery (suc n) = made_writing (suc n)
 
 -- known bytes, also where the disk is not known
-pub known_step : (found : Writes) (step : Step) (made : ℕ) (a b c : Option (List ℕ)) (old new : Option Disk) → IsNext step made (length found) → Has (storage_effect found step) b c old new → WritesAll a b (take made found)
+pub known_step : (found : Writes) (step : Step) (made : ℕ) (a b c : Option (List ℕ)) (old new : Option Disk) → IsNext step made (length found) → Succeeds (storage_effect found step) b c old new → WritesAll a b (take made found)
     → WritesAll a c (take (made_with step made) found)
 known_step found step made None b c old new next has all = tt
 known_step found step made (Some xs) None c old new next has all = absurd all
@@ -238,8 +238,8 @@ known_step found Done made (Some xs) (Some ys) c old new next has all = rw has.0
 pub record Reached (found : Writes) (whole : List ℕ) (steps : List Step) (rest : List ℕ) (sb sb' jb jb' : Option (List ℕ)) (sd sd' jd jd' : Option Disk) : Type 0 where
   pub left : rest ≡ entries (drop (made_in steps) found)
   pub known : WritesAll sb sb' (take (made_in steps) found)
-  pub storage : (h : Held) → Knows h sb sd → KnowsOne (Taken (storage_effect found) steps h) sb' sd'
-  pub journal : (h : Held) → Knows h jb jd → KnowsOne (Taken (journal_effect whole) steps h) jb' jd'
+  pub storage : (h : StorageState) → Knows h sb sd → KnowsOne (Taken (storage_effect found) steps h) sb' sd'
+  pub journal : (h : StorageState) → Knows h jb jd → KnowsOne (Taken (journal_effect whole) steps h) jb' jd'
 
 pub reached_first : (found : Writes) (whole rest : List ℕ) (sb jb : Option (List ℕ)) (sd jd : Option Disk) → rest ≡ entries found → Reached found whole [] rest sb sb jb jb sd sd jd jd
 reached_first found whole rest sb jb sd jd is = record {
@@ -254,7 +254,7 @@ reached_first found whole rest sb jb sd jd is = record {
     same (Some xs) = refl
 
 pub reached_more : (found : Writes) (whole : List ℕ) (all : List Step) (k : ℕ) (step : Step) (rest after : List ℕ) (sb sb' sb'' jb jb' jb'' : Option (List ℕ)) (sd sd' sd'' jd jd' jd'' : Option Disk) → step ≡ step_at all k
-    → IsNext step (made_in (take k all)) (length found) → Reached found whole (take k all) rest sb sb' jb jb' sd sd' jd jd' → Has (journal_effect whole step) jb' jb'' jd' jd'' → Has (storage_effect found step) sb' sb'' sd' sd''
+    → IsNext step (made_in (take k all)) (length found) → Reached found whole (take k all) rest sb sb' jb jb' sd sd' jd jd' → Succeeds (journal_effect whole step) jb' jb'' jd' jd'' → Succeeds (storage_effect found step) sb' sb'' sd' sd''
     → after ≡ entries (drop (made_with step (made_in (take k all))) found) → Reached found whole (take (suc k) all) after sb sb'' jb jb'' sd sd'' jd jd''
 reached_more found whole all k step rest after sb sb' sb'' jb jb' jb'' sd sd' sd'' jd jd' jd'' is next reached journal storage left = record {
   left = rw (made_more all k, ← is) left;
@@ -263,7 +263,7 @@ reached_more found whole all k step rest after sb sb' sb'' jb jb' jb'' sd sd' sd
   journal = λ h knows. one (journal_effect whole) refl h jb' jb'' jd' jd'' journal (reached.journal h knows);
 }
   where
-    one : (effect : Step → Effect) → effect Done ≡ Nothing → (h : Held) (b b' : Option (List ℕ)) (d d' : Option Disk) → Has (effect step) b b' d d' → KnowsOne (Taken effect (take k all) h) b d
+    one : (effect : Step → Effect) → effect Done ≡ Nothing → (h : StorageState) (b b' : Option (List ℕ)) (d d' : Option Disk) → Succeeds (effect step) b b' d d' → KnowsOne (Taken effect (take k all) h) b d
         → KnowsOne (Taken effect (take (suc k) all) h) b' d'
     one effect none h b b' d d' has before =
         let now = known_does (effect step) before.new b b' d d' has before.is in
@@ -305,7 +305,7 @@ replaces Recovery zero (suc (suc (suc (suc m)))) is = absurd (cc)
 replaces Recovery (suc n) (suc (suc m)) is = absurd (writing_replaces_none (suc n) m is)
 
 -- the first step leaves it as it is
-pub recovery_begins : (order : Order) (n k : ℕ) (whole : List ℕ) (a b : Option (List ℕ)) (old new : Option Disk) → order ≡ Recovery → k ≤ 0 → Has (journal_effect whole (step_at (steps_of order n) k)) a b old new → b ≡ a
+pub recovery_begins : (order : Order) (n k : ℕ) (whole : List ℕ) (a b : Option (List ℕ)) (old new : Option Disk) → order ≡ Recovery → k ≤ 0 → Succeeds (journal_effect whole (step_at (steps_of order n) k)) a b old new → b ≡ a
 recovery_begins Commit n k whole a b old new is low has = absurd (cc)
 recovery_begins Recovery n (suc k) whole a b old new is low has = absurd (omega (arith, low))
 recovery_begins Recovery zero zero whole a b old new is low has = has.0
@@ -327,7 +327,7 @@ pub reached_written : (order : Order) (found : Writes) (whole rest : List ℕ) (
 reached_written order found whole rest sb sb' jb jb' sd sd' jd jd' reached =
     subst (λ (l : Writes). WritesAll sb sb' l) (ap (λ (k : ℕ). take k found) (made_all order (length found)) ∙ take_all (length found) found (omega arith)) reached.known
 
-pub one_disk : (P : Held → Type 0) (b : Option (List ℕ)) (d : Option Disk) → KnowsOne P b d → LeavesOne P d
+pub one_disk : (P : StorageState → Type 0) (b : Option (List ℕ)) (d : Option Disk) → KnowsOne P b d → LeavesOne P d
 one_disk P b d one = record { new = one.new; is = one.is.1; so = one.so }
 
 -- ---- a commit and a recovery
@@ -345,22 +345,22 @@ known_redone key context js found a b (inr none) all = none_written a b (rw none
 
 abbrev pub Stopped : (found : Writes) (whole : List ℕ) (all : List Step) (sb jb : Option (List ℕ)) (sd sd' jd jd' : Option Disk) → Type 0
 Stopped found whole all sb jb sd sd' jd jd' =
-    (k : ℕ) × ((h : Held) → Knows h sb sd → LeavesOne (StopsAt (storage_effect found) all k h) sd') × ((h : Held) → Knows h jb jd → LeavesOne (StopsAt (journal_effect whole) all k h) jd')
+    (k : ℕ) × ((h : StorageState) → Knows h sb sd → LeavesOne (StopsAt (storage_effect found) all k h) sd') × ((h : StorageState) → Knows h jb jd → LeavesOne (StopsAt (journal_effect whole) all k h) jd')
 
 -- step k has not begun
-unbegun : (effect : Step → Effect) (all : List Step) (k : ℕ) (h : Held) (b : Option (List ℕ)) (d : Option Disk) → KnowsOne (Taken effect (take k all) h) b d → LeavesOne (StopsAt effect all k h) d
+unbegun : (effect : Step → Effect) (all : List Step) (k : ℕ) (h : StorageState) (b : Option (List ℕ)) (d : Option Disk) → KnowsOne (Taken effect (take k all) h) b d → LeavesOne (StopsAt effect all k h) d
 unbegun effect all k h b d one = record { new = one.new; is = one.is.1; so = record { between = one.new; taken = one.so; leaves = not_begun (effect (step_at all k)) one.new } }
 
 -- it has failed
-failed : (effect : Step → Effect) (all : List Step) (k : ℕ) (step : Step) (h : Held) (b : Option (List ℕ)) (d d' : Option Disk) → step ≡ step_at all k → KnowsOne (Taken effect (take k all) h) b d → Fails (effect step) d d'
+failed : (effect : Step → Effect) (all : List Step) (k : ℕ) (step : Step) (h : StorageState) (b : Option (List ℕ)) (d d' : Option Disk) → step ≡ step_at all k → KnowsOne (Taken effect (take k all) h) b d → Fails (effect step) d d'
     → LeavesOne (StopsAt effect all k h) d'
 failed effect all k step h b d d' is one fails =
     let now = known_leaves (effect step) one.new d d' fails one.is.1 in
     record { new = now.new; is = now.is; so = record { between = one.new; taken = one.so; leaves = subst (λ (s : Step). Leaves (effect s) one.new now.new) is now.so } }
 
 -- the storage has taken it
-taken : (found : Writes) (all : List Step) (k : ℕ) (step : Step) (h : Held) (b b' : Option (List ℕ)) (d d' : Option Disk) → step ≡ step_at all k → KnowsOne (Taken (storage_effect found) (take k all) h) b d
-    → Has (storage_effect found step) b b' d d' → LeavesOne (StopsAt (storage_effect found) all k h) d'
+taken : (found : Writes) (all : List Step) (k : ℕ) (step : Step) (h : StorageState) (b b' : Option (List ℕ)) (d d' : Option Disk) → step ≡ step_at all k → KnowsOne (Taken (storage_effect found) (take k all) h) b d
+    → Succeeds (storage_effect found step) b b' d d' → LeavesOne (StopsAt (storage_effect found) all k h) d'
 taken found all k step h b b' d d' is one has =
     let now = known_does (storage_effect found step) one.new b b' d d' has one.is in
     record {
@@ -380,6 +380,6 @@ stopped_in_storage found whole all k step rest sb sb' jb jb' sd sd' sd'' jd jd' 
     (k, λ h knows. failed (storage_effect found) all k step h sb' sd' sd'' is (reached.storage h knows) fails, λ h knows. unbegun (journal_effect whole) all k h jb' jd' (reached.journal h knows))
 
 pub stopped_in_journal : (found : Writes) (whole : List ℕ) (all : List Step) (k : ℕ) (step : Step) (rest : List ℕ) (sb sb' sb'' jb jb' : Option (List ℕ)) (sd sd' sd'' jd jd' jd'' : Option Disk) → step ≡ step_at all k
-    → Reached found whole (take k all) rest sb sb' jb jb' sd sd' jd jd' → Has (storage_effect found step) sb' sb'' sd' sd'' → Fails (journal_effect whole step) jd' jd'' → Stopped found whole all sb jb sd sd'' jd jd''
+    → Reached found whole (take k all) rest sb sb' jb jb' sd sd' jd jd' → Succeeds (storage_effect found step) sb' sb'' sd' sd'' → Fails (journal_effect whole step) jd' jd'' → Stopped found whole all sb jb sd sd'' jd jd''
 stopped_in_journal found whole all k step rest sb sb' sb'' jb jb' sd sd' sd'' jd jd' jd'' is reached has fails =
     (k, λ h knows. taken found all k step h sb' sb'' sd' sd'' is (reached.storage h knows) has, λ h knows. failed (journal_effect whole) all k step h jb' jd' jd'' is (reached.journal h knows) fails)

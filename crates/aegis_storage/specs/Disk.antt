@@ -76,8 +76,8 @@ abbrev pub certain : List ℕ → Disk
 certain xs = record { synced = xs; lost = []; pending = [] }
 
 -- the disk after more changes, which are pending, too
-abbrev pub after : Disk → List Change → Disk
-after disk more = record { synced = disk.synced; lost = disk.lost; pending = disk.pending ++ more }
+abbrev pub disk_after : Disk → List Change → Disk
+disk_after disk more = record { synced = disk.synced; lost = disk.lost; pending = disk.pending ++ more }
 
 -- the disk after a call that failed: what was pending may be lost
 abbrev pub spoilt : Disk → Disk
@@ -132,16 +132,16 @@ pub record CrashLeaves (P : List ℕ → Type 0) (state : Option Disk) : Type 0 
 -- Whatever a crash may leave of the first, also after the same further changes, it may leave of the second; and a sync
 -- makes certain of the first whatever it makes certain of the second.
 pub record IsWithin (now disk : Disk) : Type 0 where
-  pub also : (more : List Change) (bytes : List ℕ) → Crashed (after now more) bytes → Crashed (after disk more) bytes
-  pub settles : (more : List Change) (bytes : List ℕ) → SettlesTo (after disk more) bytes → SettlesTo (after now more) bytes
+  pub also : (more : List Change) (bytes : List ℕ) → Crashed (disk_after now more) bytes → Crashed (disk_after disk more) bytes
+  pub settles : (more : List Change) (bytes : List ℕ) → SettlesTo (disk_after disk more) bytes → SettlesTo (disk_after now more) bytes
 
 -- After `Ok` these changes are pending, too. Some of them may be certain already, as in a vector.
 abbrev pub Adds : Option Disk → Option Disk → List Change → Type 0
-Adds old new more = IfKnown (λ disk now. IsWithin now (after disk more)) old new
+Adds old new more = IfKnown (λ disk now. IsWithin now (disk_after disk more)) old new
 
 -- After an error all that was pending may be lost, with these changes.
 abbrev pub Spoils : Option Disk → Option Disk → List Change → Type 0
-Spoils old new more = IfKnown (λ disk now. IsWithin now (spoilt (after disk more))) old new
+Spoils old new more = IfKnown (λ disk now. IsWithin now (spoilt (disk_after disk more))) old new
 
 -- After a sync with `Ok` the bytes are certain to which the disk settles. If there are none, what was pending may be lost.
 pub record MakesSynced (old new : Disk) : Type 0 where

@@ -26,8 +26,8 @@ abbrev pub entries : Writes → List ℕ
 entries writes = flat_map entry writes
 
 -- no write passes the last place of a storage
-abbrev pub AreWithin : Writes → Type 0
-AreWithin writes = AllByRecursion (λ write. write.0 + length write.1 ≤ max_storage_bytes) writes
+abbrev pub AreWithinStorage : Writes → Type 0
+AreWithinStorage writes = AllByRecursion (λ write. write.0 + length write.1 ≤ max_storage_bytes) writes
 
 -- what the MAC of a journal is of: the context behind its length, and the writes
 abbrev pub authenticated : (context content : List ℕ) → List ℕ
@@ -58,7 +58,7 @@ pub record IsFramed (key context content bytes : List ℕ) : Type 0 where
 
 -- The bytes are a journal of these writes.
 pub record IsJournal (key context : List ℕ) (writes : Writes) (bytes : List ℕ) : Type 0 where
-  pub within : AreWithin writes
+  pub within : AreWithinStorage writes
   pub framed : IsFramed key context (entries writes) bytes
 
 -- Recovery of a storage that holds `old`, by what the journal holds, gives bytes of which P holds.

@@ -5,18 +5,18 @@ use Rattle.std.specs.Io.KnownBytes.{Keeps}
 use Rattle.aegis_storage.specs.Journal.{IsJournal, entries}
 use Rattle.aegis_storage.specs.declared.steps.Step.{Step}
 use Rattle.aegis_storage.specs.declared.steps.Step.TheVariants.{Done, EmptyJournal, MakeWrite, ReplaceJournal, SyncJournal, SyncStorage, WriteBeginning, WriteRest}
-use Rattle.aegis_storage.specs.Steps.{Effect, Held, Changes, Nothing, Replaces, Syncs}
+use Rattle.aegis_storage.specs.Steps.{Effect, StorageState, Changes, Nothing, Replaces, Syncs}
 
 -- The bytes are a journal of the writes that this content is of.
 abbrev pub IsContent : (key context bytes content : List ℕ) → Type 0
 IsContent key context bytes content = (writes : Writes) × IsJournal key context writes bytes × (content ≡ entries writes)
 
 -- what a call that has the effect does if it returns without an error
-abbrev pub Has : Effect → (bytes bytes' : Option (List ℕ)) → (disk disk' : Option Disk) → Type 0
-Has Nothing bytes bytes' disk disk' = (bytes' ≡ bytes) × (disk' ≡ disk)
-Has (Changes change) bytes bytes' disk disk' = IfKnown (λ xs ys. ys ≡ changed change xs) bytes bytes' × Adds disk disk' (change ∷ [])
-Has Syncs bytes bytes' disk disk' = Keeps bytes bytes' × IsSynced disk disk'
-Has Replaces bytes bytes' disk disk' = Keeps bytes bytes' × MakesCertain bytes disk disk'
+abbrev pub Succeeds : Effect → (bytes bytes' : Option (List ℕ)) → (disk disk' : Option Disk) → Type 0
+Succeeds Nothing bytes bytes' disk disk' = (bytes' ≡ bytes) × (disk' ≡ disk)
+Succeeds (Changes change) bytes bytes' disk disk' = IfKnown (λ xs ys. ys ≡ changed change xs) bytes bytes' × Adds disk disk' (change ∷ [])
+Succeeds Syncs bytes bytes' disk disk' = Keeps bytes bytes' × IsSynced disk disk'
+Succeeds Replaces bytes bytes' disk disk' = Keeps bytes bytes' × MakesCertain bytes disk disk'
 
 -- and if it returns an error
 abbrev pub Fails : Effect → (disk disk' : Option Disk) → Type 0
@@ -26,12 +26,12 @@ Fails Syncs disk disk' = Spoils disk disk' []
 Fails Replaces disk disk' = Spoils disk disk' []
 
 -- the bytes and the disk are known
-abbrev pub Knows : Held → (bytes : Option (List ℕ)) → (disk : Option Disk) → Type 0
+abbrev pub Knows : StorageState → (bytes : Option (List ℕ)) → (disk : Option Disk) → Type 0
 Knows h bytes disk = (bytes ≡ Some h.bytes) × (disk ≡ Some h.disk)
 
 -- the disk is known, and is that of something of which P holds
-pub record LeavesOne (P : Held → Type 0) (disk : Option Disk) : Type 0 where
-  pub new : Held
+pub record LeavesOne (P : StorageState → Type 0) (disk : Option Disk) : Type 0 where
+  pub new : StorageState
   pub is : disk ≡ Some new.disk
   pub so : P new
 

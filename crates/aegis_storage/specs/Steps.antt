@@ -1,7 +1,7 @@
 -- The order of the calls of a commit and of a recovery, and what the calls do to a storage and to its journal.
 use Rattle.std.specs.Prelude.{◌≡◌, ℕ, zero, suc, ◌⊎◌, List, [], ◌∷◌, ◌++◌, drop, get_or, map, take, Some, Option, length}
 use Rattle.std.specs.List.{range_with_len}
-use Rattle.aegis_storage.specs.Disk.{Change, Crashed, Disk, IsWithin, MakesSynced, Size, Write, Writes, after, certain, changed}
+use Rattle.aegis_storage.specs.Disk.{Change, Crashed, Disk, IsWithin, MakesSynced, Size, Write, Writes, disk_after, certain, changed}
 use Rattle.aegis_storage.specs.Journal.{IsJournal, IsNoOtherJournal, RecoversUnlessOtherJournal, journal_beginning_bytes}
 use Rattle.aegis_storage.specs.declared.steps.Order.{Order}
 use Rattle.aegis_storage.specs.declared.steps.Order.TheVariants.{Commit, Recovery}
@@ -60,20 +60,20 @@ storage_effect writes SyncStorage = Syncs
 storage_effect writes _ = Nothing
 
 -- what can be read of a storage, and what a crash may leave of it
-pub record Held : Type 0 where
+pub record StorageState : Type 0 where
   pub bytes : List ℕ
   pub disk : Disk
 
 -- certain bytes
-abbrev pub held : List ℕ → Held
-held xs = record { bytes = xs; disk = certain xs }
+abbrev pub certain_state : List ℕ → StorageState
+certain_state xs = record { bytes = xs; disk = certain xs }
 
 -- A call that has the effect has returned without an error.
-abbrev pub Does : Effect → (old new : Held) → Type 0
+abbrev pub Does : Effect → (old new : StorageState) → Type 0
 Does Nothing old new = new ≡ old
-Does (Changes change) old new = (new.bytes ≡ changed change old.bytes) × IsWithin new.disk (after old.disk (change ∷ []))
+Does (Changes change) old new = (new.bytes ≡ changed change old.bytes) × IsWithin new.disk (disk_after old.disk (change ∷ []))
 Does Syncs old new = (new.bytes ≡ old.bytes) × MakesSynced old.disk new.disk
-Does Replaces old new = new ≡ held old.bytes
+Does Replaces old new = new ≡ certain_state old.bytes
 
 -- A crash leaves no more of the first disk than of the second.
 abbrev pub LeavesNoMore : (now disk : Disk) → Type 0
@@ -84,39 +84,39 @@ abbrev pub StaysCertain : (old new : Disk) → Type 0
 StaysCertain old new = (bytes : List ℕ) → IsWithin old (certain bytes) → IsWithin new (certain bytes)
 
 -- The call has not begun, is under way, or has failed: any part of its change may be left, and what was pending be lost.
-abbrev pub Leaves : Effect → (old new : Held) → Type 0
+abbrev pub Leaves : Effect → (old new : StorageState) → Type 0
 Leaves Nothing old new = new ≡ old
-Leaves (Changes change) old new = LeavesNoMore new.disk (after old.disk (change ∷ []))
+Leaves (Changes change) old new = LeavesNoMore new.disk (disk_after old.disk (change ∷ []))
 Leaves Syncs old new = LeavesNoMore new.disk old.disk × StaysCertain old.disk new.disk
 Leaves Replaces old new = LeavesNoMore new.disk old.disk × StaysCertain old.disk new.disk
 
 -- the first of some calls has returned without an error, and the others too
-pub record TakenFirst (first : Effect) (others : Held → Type 0) (old : Held) : Type 0 where
-  pub between : Held
+pub record TakenFirst (first : Effect) (others : StorageState → Type 0) (old : StorageState) : Type 0 where
+  pub between : StorageState
   pub does : Does first old between
   pub more : others between
 
 -- the calls of these steps have returned without an error, one after the other
-abbrev pub Taken : (Step → Effect) → List Step → (old new : Held) → Type 0
+abbrev pub Taken : (Step → Effect) → List Step → (old new : StorageState) → Type 0
 Taken effect [] old new = new ≡ old
 Taken effect (step ∷ steps) old new = TakenFirst (effect step) (λ h. Taken effect steps h new) old
 
 -- those of the first k steps have, and step k has not begun, is under way, or has failed
-pub record StopsAt (effect : Step → Effect) (steps : List Step) (k : ℕ) (old new : Held) : Type 0 where
-  pub between : Held
+pub record StopsAt (effect : Step → Effect) (steps : List Step) (k : ℕ) (old new : StorageState) : Type 0 where
+  pub between : StorageState
   pub taken : Taken effect (take k steps) old between
   pub leaves : Leaves (effect (step_at steps k)) between new
 
 -- A commit of the writes by this journal, which began with xs for certain and with no journal, stopped at one of its steps.
 pub record StopsInCommit (key context journal xs : List ℕ) (writes : Writes) (storage' journal' : Option Disk) : Type 0 where
   pub step : ℕ
-  pub s : Held
-  pub j : Held
+  pub s : StorageState
+  pub j : StorageState
   pub whole : IsJournal key context writes journal
   pub storage_is : storage' ≡ Some s.disk
   pub journal_is : journal' ≡ Some j.disk
-  pub storage_stops : StopsAt (storage_effect writes) (commit_steps (length writes)) step (held xs) s
-  pub journal_stops : StopsAt (journal_effect journal) (commit_steps (length writes)) step (held []) j
+  pub storage_stops : StopsAt (storage_effect writes) (commit_steps (length writes)) step (certain_state xs) s
+  pub journal_stops : StopsAt (journal_effect journal) (commit_steps (length writes)) step (certain_state []) j
 
 -- the writes that recovery makes again: those of a whole journal, and none for any other
 abbrev pub AreRedone : (key context journal : List ℕ) → Writes → Type 0
@@ -124,7 +124,7 @@ AreRedone key context journal writes =
     IsJournal key context writes journal ⊎ ((writes ≡ []) × ((found : Writes) → IsJournal key context found journal → ⊥))
 
 -- What a recovery begins with, and the writes that it finds. What can be read is one of the contents that a crash may leave.
-pub record Recoverable (key context xs : List ℕ) (writes found : Writes) (s j : Held) : Type 0 where
+pub record Recoverable (key context xs : List ℕ) (writes found : Writes) (s j : StorageState) : Type 0 where
   pub storage : Crashed s.disk s.bytes
   pub journal : Crashed j.disk j.bytes
   pub recovers : RecoversUnlessOtherJournal key context xs writes (Some s.disk) (Some j.disk)

@@ -2,9 +2,9 @@
 
 ghost use Rattle.std.specs.Prelude.{◌≡◌, ◌≤◌, ◌⊎◌, drop, IfErr, IfOk, IfSome, List, OnErr, OnOk, length, ℕ};
 ghost use Rattle.aegis_storage.specs.Disk.{Writes, WritesAll};
-ghost use Rattle.aegis_storage.specs.Journal.{AreWithin, entries};
-ghost use Rattle.aegis_storage.specs.Private.{Fails, Has, IsNext, Knows, LeavesOne, made_with};
-ghost use Rattle.aegis_storage.specs.Steps.{Held, StopsAt, Taken, journal_effect, steps_of, storage_effect};
+ghost use Rattle.aegis_storage.specs.Journal.{AreWithinStorage, entries};
+ghost use Rattle.aegis_storage.specs.Private.{Fails, Succeeds, IsNext, Knows, LeavesOne, made_with};
+ghost use Rattle.aegis_storage.specs.Steps.{StorageState, StopsAt, Taken, journal_effect, steps_of, storage_effect};
 
 use crate::journal::{BEGINNING_BYTES, first_write};
 use crate::steps::{Order, Step, step_of};
@@ -17,7 +17,7 @@ const OTHER_STEPS: u64 = 7;
 // Returns how many writes the content of a journal has.
 fn count_writes(content: &[u8]) -> u64
     ensures few { result ≤ length content.now }
-    ensures counted { (found : Writes) → AreWithin found → content.now ≡ entries found
+    ensures counted { (found : Writes) → AreWithinStorage found → content.now ≡ entries found
         → result ≡ length found }
 {
     let mut number = 0;
@@ -37,7 +37,7 @@ fn journal_step<J: Storage>(step: Step, journal: &mut J, whole: &[u8]) -> io::Re
     requires { step ≡ Step.ReplaceJournal → IfSome (J.bytes journal.old) (λ xs. whole.now ≡ xs) }
     ensures failed { OnErr result
         (Fails (journal_effect whole.now step) (J.disk journal.old) (J.disk journal.new)) }
-    ensures taken { OnOk result (Has (journal_effect whole.now step) (J.bytes journal.old)
+    ensures taken { OnOk result (Succeeds (journal_effect whole.now step) (J.bytes journal.old)
         (J.bytes journal.new) (J.disk journal.old) (J.disk journal.new)) }
     ensures cause { IfErr result J.errors }
 {
@@ -56,14 +56,14 @@ fn journal_step<J: Storage>(step: Step, journal: &mut J, whole: &[u8]) -> io::Re
 
 // Takes a step on a storage, and returns what is left of the content of the journal, which has the next write first.
 fn storage_step<'a, S: Storage>(step: Step, storage: &mut S, rest: &'a [u8]) -> io::Result<&'a [u8]>
-    ensures failed { OnErr result ((found : Writes) (made : ℕ) → AreWithin found
+    ensures failed { OnErr result ((found : Writes) (made : ℕ) → AreWithinStorage found
         → rest.now ≡ entries (drop made found) → IsNext step made (length found)
         → Fails (storage_effect found step) (S.disk storage.old) (S.disk storage.new)) }
-    ensures taken { OnOk result ((found : Writes) (made : ℕ) → AreWithin found
+    ensures taken { OnOk result ((found : Writes) (made : ℕ) → AreWithinStorage found
         → rest.now ≡ entries (drop made found) → IsNext step made (length found)
-        → Has (storage_effect found step) (S.bytes storage.old) (S.bytes storage.new)
+        → Succeeds (storage_effect found step) (S.bytes storage.old) (S.bytes storage.new)
         (S.disk storage.old) (S.disk storage.new)) }
-    ensures left { IfOk result (λ after. (found : Writes) (made : ℕ) → AreWithin found
+    ensures left { IfOk result (λ after. (found : Writes) (made : ℕ) → AreWithinStorage found
         → rest.now ≡ entries (drop made found) → IsNext step made (length found)
         → after.now ≡ entries (drop (made_with step made) found)) }
     ensures cause { IfErr result S.errors }
@@ -99,19 +99,23 @@ pub fn take_steps<S: Storage, J: Storage>(
     content: &[u8],
 ) -> io::Result<()>
     requires { order ≡ Order.Recovery → IfSome (J.bytes journal.old) (λ xs. whole.now ≡ xs) }
-    ensures stopped { (found : Writes) → AreWithin found → content.now ≡ entries found → (k : ℕ)
-        × ((h : Held) → Knows h (S.bytes storage.old) (S.disk storage.old) → LeavesOne
+    ensures stopped { (found : Writes) → AreWithinStorage found → content.now ≡ entries found
+        → (k : ℕ)
+        × ((h : StorageState) → Knows h (S.bytes storage.old) (S.disk storage.old) → LeavesOne
         (StopsAt (storage_effect found) (steps_of order (length found)) k h) (S.disk storage.new))
-        × ((h : Held) → Knows h (J.bytes journal.old) (J.disk journal.old) → LeavesOne
+        × ((h : StorageState) → Knows h (J.bytes journal.old) (J.disk journal.old) → LeavesOne
         (StopsAt (journal_effect whole.now) (steps_of order (length found)) k h)
         (J.disk journal.new)) }
-    ensures written { OnOk result ((found : Writes) → AreWithin found → content.now ≡ entries found
+    ensures written { OnOk result ((found : Writes) → AreWithinStorage found
+        → content.now ≡ entries found
         → WritesAll (S.bytes storage.old) (S.bytes storage.new) found) }
-    ensures storage { OnOk result ((found : Writes) → AreWithin found → content.now ≡ entries found
-        → (h : Held) → Knows h (S.bytes storage.old) (S.disk storage.old) → LeavesOne
+    ensures storage { OnOk result ((found : Writes) → AreWithinStorage found
+        → content.now ≡ entries found
+        → (h : StorageState) → Knows h (S.bytes storage.old) (S.disk storage.old) → LeavesOne
         (Taken (storage_effect found) (steps_of order (length found)) h) (S.disk storage.new)) }
-    ensures journal { OnOk result ((found : Writes) → AreWithin found → content.now ≡ entries found
-        → (h : Held) → Knows h (J.bytes journal.old) (J.disk journal.old) → LeavesOne
+    ensures journal { OnOk result ((found : Writes) → AreWithinStorage found
+        → content.now ≡ entries found
+        → (h : StorageState) → Knows h (J.bytes journal.old) (J.disk journal.old) → LeavesOne
         (Taken (journal_effect whole.now) (steps_of order (length found)) h) (J.disk journal.new)) }
     ensures cause { IfErr result (λ e. S.errors e ⊎ J.errors e) }
 {

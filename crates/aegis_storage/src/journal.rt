@@ -6,7 +6,7 @@ ghost use Rattle.std.specs.Int.{to_le_bytes, w64};
 ghost use Rattle.aegis_base.specs.Context.{Stands};
 ghost use Rattle.aegis_base.specs.Variant.{Aegis128L};
 ghost use Rattle.aegis_storage.specs.Disk.{Writes, writes_of};
-ghost use Rattle.aegis_storage.specs.Journal.{AreWithin, IsFramed, IsJournal, IsOutOfMemory, IsTooLong, authenticated, entries, entry, framed};
+ghost use Rattle.aegis_storage.specs.Journal.{AreWithinStorage, IsFramed, IsJournal, IsOutOfMemory, IsTooLong, authenticated, entries, entry, framed};
 ghost use Rattle.aegis_storage.specs.Private.{IsContent};
 
 use crate::pending::PendingWrite;
@@ -172,8 +172,8 @@ pub fn first_write(content: &[u8]) -> Option<(u64, &[u8], &[u8])>
 // Returns whether the content of a journal is that of some writes.
 fn are_writes(content: &[u8]) -> bool
     ensures some { IsTrue result
-        → (writes : Writes) × AreWithin writes × (content.now ≡ entries writes) }
-    ensures none { (writes : Writes) → AreWithin writes → content.now ≡ entries writes
+        → (writes : Writes) × AreWithinStorage writes × (content.now ≡ entries writes) }
+    ensures none { (writes : Writes) → AreWithinStorage writes → content.now ≡ entries writes
         → IsTrue result }
 {
     let mut rest = content;

@@ -4,7 +4,7 @@
 ghost use Rattle.std.specs.Prelude.{◌≡◌, ◌+◌, [], List, Option, Some, length, take, ℕ};
 ghost use Rattle.aegis_storage.specs.Disk.{AreParts, Change, Crashed, Disk, Writes, applied, certain, changes, after_writes};
 ghost use Rattle.aegis_storage.specs.Journal.{IsAtRest, IsJournal, KeepsBeginning, RecoversUnlessOtherJournal, RestsAtEither, journal_beginning_bytes, journal_start_bytes, max_journal_bytes, max_storage_bytes};
-ghost use Rattle.aegis_storage.specs.Steps.{Held, Recoverable, StopsAt, Taken, commit_steps, held, journal_effect, recovery_steps, storage_effect};
+ghost use Rattle.aegis_storage.specs.Steps.{StorageState, Recoverable, StopsAt, Taken, commit_steps, certain_state, journal_effect, recovery_steps, storage_effect};
 
 use crate::journal::{BEGINNING_BYTES, MAX_JOURNAL_BYTES, NONCE_BYTES};
 use crate::store::MAX_STORAGE_BYTES;
@@ -52,34 +52,34 @@ pub fn recovers_after_a_crash()
 /// Wherever the steps of a commit stop, because the program or the system does or because a call fails: recovery gives
 /// what the storage held before the commit, or all of its writes over it. A sync that fails may lose what was pending.
 pub fn commit_recovers_at_any_step()
-    ensures { (key context journal xs : List ℕ) (writes : Writes) (k : ℕ) (s j : Held)
+    ensures { (key context journal xs : List ℕ) (writes : Writes) (k : ℕ) (s j : StorageState)
         → IsJournal key context writes journal
-        → StopsAt (storage_effect writes) (commit_steps (length writes)) k (held xs) s
-        → StopsAt (journal_effect journal) (commit_steps (length writes)) k (held []) j
+        → StopsAt (storage_effect writes) (commit_steps (length writes)) k (certain_state xs) s
+        → StopsAt (journal_effect journal) (commit_steps (length writes)) k (certain_state []) j
         → RecoversUnlessOtherJournal key context xs writes (Some s.disk) (Some j.disk) }
 {}
 
 /// After all steps of a commit the storage has the writes, and is at rest with an empty journal.
 pub fn commit_ends_at_rest()
-    ensures { (key context journal xs : List ℕ) (writes : Writes) (s j : Held)
+    ensures { (key context journal xs : List ℕ) (writes : Writes) (s j : StorageState)
         → IsJournal key context writes journal
-        → Taken (storage_effect writes) (commit_steps (length writes)) (held xs) s
-        → Taken (journal_effect journal) (commit_steps (length writes)) (held []) j
+        → Taken (storage_effect writes) (commit_steps (length writes)) (certain_state xs) s
+        → Taken (journal_effect journal) (commit_steps (length writes)) (certain_state []) j
         → IsAtRest (Some s.disk) (Some j.disk) (after_writes writes xs) }
 {}
 
 /// Wherever the steps of a commit stop, a journal of more than 512 bytes begins with its beginning.
 pub fn commit_keeps_the_beginning()
-    ensures { (key context journal : List ℕ) (writes : Writes) (k : ℕ) (j : Held)
+    ensures { (key context journal : List ℕ) (writes : Writes) (k : ℕ) (j : StorageState)
         → IsJournal key context writes journal
-        → StopsAt (journal_effect journal) (commit_steps (length writes)) k (held []) j
+        → StopsAt (journal_effect journal) (commit_steps (length writes)) k (certain_state []) j
         → KeepsBeginning (take 512 journal) (Some j.disk) }
 {}
 
 /// What recovers before a recovery does so wherever its steps stop: `s` and `j` are what can be read of the storage and
 /// of the journal and what a crash may leave of them as it begins, and `found` are the writes that it finds.
 pub fn recovery_recovers_at_any_step()
-    ensures { (key context xs : List ℕ) (writes found : Writes) (s j s' j' : Held) (k : ℕ)
+    ensures { (key context xs : List ℕ) (writes found : Writes) (s j s' j' : StorageState) (k : ℕ)
         → Recoverable key context xs writes found s j
         → StopsAt (storage_effect found) (recovery_steps (length found)) k s s'
         → StopsAt (journal_effect j.bytes) (recovery_steps (length found)) k j j'
@@ -88,7 +88,7 @@ pub fn recovery_recovers_at_any_step()
 
 /// After all steps of a recovery the storage has all the writes of the commit or none, and is at rest.
 pub fn recovery_ends_at_rest()
-    ensures { (key context xs : List ℕ) (writes found : Writes) (s j s' j' : Held)
+    ensures { (key context xs : List ℕ) (writes found : Writes) (s j s' j' : StorageState)
         → Recoverable key context xs writes found s j
         → Taken (storage_effect found) (recovery_steps (length found)) s s'
         → Taken (journal_effect j.bytes) (recovery_steps (length found)) j j'

@@ -2,7 +2,7 @@
 
 ghost use Rattle.std.specs.Prelude.{◌≡◌, ◌≤◌, IfErr, IfSome, List, OnOk, length, ℕ};
 ghost use Rattle.aegis_storage.specs.Disk.{Writes};
-ghost use Rattle.aegis_storage.specs.Journal.{AreWithin, IsNoOtherJournal, IsRecoverError, KeepsBeginning, RecoversKnown, RecoversUnlessOtherJournal, RestsAtEither, entries};
+ghost use Rattle.aegis_storage.specs.Journal.{AreWithinStorage, IsNoOtherJournal, IsRecoverError, KeepsBeginning, RecoversKnown, RecoversUnlessOtherJournal, RestsAtEither, entries};
 ghost use Rattle.aegis_storage.specs.Steps.{AreRedone};
 
 use crate::calls::read_all;
@@ -18,7 +18,7 @@ use std::io;
 // Returns the content of a whole journal, and nothing for any other journal.
 fn redone<'a>(key: &Key, context: &[u8], journal: &'a [u8]) -> &'a [u8]
     requires { length context.now ≤ MAX_CONTEXT_BYTES }
-    ensures { (found : Writes) × AreWithin found × (result.now ≡ entries found)
+    ensures { (found : Writes) × AreWithinStorage found × (result.now ≡ entries found)
         × AreRedone key.now context.now journal.now found }
 {
     match journaled_content(key, context, journal) {

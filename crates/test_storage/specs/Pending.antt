@@ -23,12 +23,12 @@ abbrev pub disk_of : TestDisk → Disk
 disk_of test_disk = disk_with test_disk.failed test_disk.synced.items (changes_of test_disk.pending.items)
 
 -- what can be read: everything that was written
-abbrev pub bytes_of : TestDisk → List ℕ
-bytes_of test_disk = applied (changes_of test_disk.pending.items) test_disk.synced.items
+abbrev pub readable_bytes : TestDisk → List ℕ
+readable_bytes test_disk = applied (changes_of test_disk.pending.items) test_disk.synced.items
 
 -- everything that was written is synced
 abbrev pub IsSettled : (old new : TestDisk) → Type 0
-IsSettled old new = (old.failed ≡ false) × (new.synced.items ≡ bytes_of old) × (new.pending.items ≡ []) × (new.failed ≡ false)
+IsSettled old new = (old.failed ≡ false) × (new.synced.items ≡ readable_bytes old) × (new.pending.items ≡ []) × (new.failed ≡ false)
 
 -- a call has failed, and has changed nothing
 abbrev pub IsLost : (old new : TestDisk) → Type 0
@@ -52,5 +52,5 @@ all_with : (failed : Bool) (synced : List ℕ) (changes : List Change) → Crash
 all_with false synced changes = record { base = synced; of_lost = refl; parts = changes; of_pending = all_parts changes; are = refl }
 all_with true synced changes = record { base = applied changes synced; of_lost = (changes, all_parts changes, refl); parts = []; of_pending = tt; are = refl }
 
-pub all_there : (test_disk : TestDisk) → Crashed (disk_of test_disk) (bytes_of test_disk)
+pub all_there : (test_disk : TestDisk) → Crashed (disk_of test_disk) (readable_bytes test_disk)
 all_there test_disk = all_with test_disk.failed test_disk.synced.items (changes_of test_disk.pending.items)

@@ -2,7 +2,7 @@
 
 ghost use Rattle.std.specs.Prelude.{◌≡◌, ◌∷◌, [], IfOk, OnErr, OnOk, Some, false, true};
 ghost use Rattle.aegis_storage.specs.Disk.{applied};
-ghost use Rattle.test_storage.specs.Pending.{IsLost, IsSettled, all_there, bytes_of, changes_of, disk_of};
+ghost use Rattle.test_storage.specs.Pending.{IsLost, IsSettled, all_there, readable_bytes, changes_of, disk_of};
 
 use crate::pending::{NewSize, PendingChange};
 use aegis_storage::{PendingWrite, Storage};
@@ -52,7 +52,7 @@ impl TestDisk {
 
     /// Returns everything that was written.
     pub fn current(&self) -> io::Result<Vec<u8>>
-        ensures { IfOk result (λ bytes. bytes.items ≡ bytes_of self.now) }
+        ensures { IfOk result (λ bytes. bytes.items ≡ readable_bytes self.now) }
     {
         let mut bytes = self.synced.to_vec(self.alloc)?;
         for pending in &self.pending {
@@ -102,7 +102,7 @@ impl TestDisk {
 }
 
 impl Storage for TestDisk {
-    ghost bytes = { λ disk. Some (bytes_of disk) };
+    ghost bytes = { λ disk. Some (readable_bytes disk) };
 
     ghost disk = { λ disk. Some (disk_of disk) };
 

@@ -1,7 +1,7 @@
 //! The parts of a record.
 
 ghost use Rattle.std.specs.Prelude.{◌≡◌};
-ghost use Rattle.aegis.specs.Private.{AreParts};
+ghost use Rattle.aegis.specs.Private.{HasParts};
 ghost use Rattle.aegis.specs.RecordStream.{parts};
 
 use crate::record::error::RecordError;
@@ -27,7 +27,7 @@ impl<'a> Frame<'a> {
     /// Splits the bytes into the parts of their first record and the bytes after it. Nothing is opened.
     #[tactic(auto, unfolding(crate::specs::RecordStream::parts))]
     pub fn read(version: Version, bytes: &'a [u8]) -> Result<Frame<'a>, RecordError>
-        ensures { AreParts result (parts version bytes.now) }
+        ensures { HasParts result (parts version bytes.now) }
     {
         let Some((flag, bytes)) = bytes.split_first() else {
             return Err(RecordError::Truncated);

@@ -5,7 +5,7 @@ ghost use Rattle.std.specs.Int.{to_le_bytes, w32, w64};
 ghost use Rattle.aegis_base.specs.Chunks.{joined};
 ghost use Rattle.aegis_base.specs.Message.{erased_byte};
 ghost use Rattle.aegis.specs.Calls.{sealing_of};
-ghost use Rattle.aegis.specs.RecordStream.{associated_data, before_bytes, header, limit, nonce};
+ghost use Rattle.aegis.specs.RecordStream.{record_associated_data, before_bytes, header, limit, nonce};
 
 use crate::aegis256::{Aegis256, Error, Key, Nonce};
 use crate::record::error::RecordError;
@@ -88,7 +88,7 @@ impl AssociatedData {
     // The associated data of the record, in pieces.
     fn pieces<'b>(&'b self, context: &'b [u8]) -> [&'b [u8]; 5]
         ensures are { joined result
-            ≡ associated_data self.now.position self.now.flag context.now }
+            ≡ record_associated_data self.now.position self.now.flag context.now }
         ensures short { length (joined result) ≤ 21 + length context.now }
     {
         let header = self.header();

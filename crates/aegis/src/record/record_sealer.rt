@@ -3,7 +3,7 @@ mod in_place;
 
 ghost use Rattle.std.specs.Prelude.{◌≡◌, ◌+◌, ◌-◌, ◌≤◌, ◌++◌, ◌∷◌, [], IfErr, IfOk, List, OnErr, OnOk, false, length, ℕ};
 ghost use Rattle.aegis_base.specs.declared.error.TheConstants.{MAX_AEAD_BYTES};
-ghost use Rattle.aegis.specs.Calls.{Begun, after, progress_at, record_of, sealing_of, start_of};
+ghost use Rattle.aegis.specs.Calls.{Begun, progress_after, progress_at, record_of, sealing_of, start_of};
 ghost use Rattle.aegis.specs.RecordStream.{AreRecords, first_position, frame, header, limit};
 ghost use Rattle.aegis.specs.declared.record.version.Version.TheVariants.{Second};
 
@@ -177,7 +177,7 @@ impl<'a> RecordSealer<'a> {
         ensures begun { OnOk result
             ((ms : List (List ℕ)) (bytes : List ℕ) → Begun self.old ms bytes
             → Begun self.new (ms ++ message.now ∷ []) (bytes ++ record_of self.old 0 message.now)) }
-        ensures progress { OnOk result (self.new ≡ after self.old false message.now) }
+        ensures progress { OnOk result (self.new ≡ progress_after self.old false message.now) }
         ensures taken { OnOk result
             (start_of self.new ≡ start_of self.old + (RECORD_BYTES + length message.now)) }
         ensures length { OnOk result

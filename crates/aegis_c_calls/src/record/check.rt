@@ -2,7 +2,7 @@
 
 ghost use Rattle.std.specs.Prelude.{◌≡◌, ◌≢◌, ◌+◌, ◌<◌, ◌≤◌, ℤ, IfErr, IfNone, IfOk, IfSome, OnOk};
 ghost use Rattle.aegis.specs.RecordStream.{start_at};
-ghost use Rattle.aegis_c_calls.specs.Codes.{mark_code, next_position, number_of, record_code, success};
+ghost use Rattle.aegis_c_calls.specs.Codes.{mark_code, position_of, number_of, record_code, success};
 
 use crate::record::state::RecordState;
 use crate::refusal::Refusal;
@@ -14,9 +14,9 @@ const HEADER_BYTES: u64 = 4;
 
 // Returns at which byte of its stream the next record starts, or `None` if that is past the limit.
 fn start(st: &RecordState) -> Option<u64>
-    ensures start { IfSome result (λ at. at ≡ start_at (next_position st.now)) }
+    ensures start { IfSome result (λ at. at ≡ start_at (position_of st.now)) }
     ensures within { IfSome result (λ at. at ≤ MAX_AEAD_BYTES) }
-    ensures past { IfNone result (MAX_AEAD_BYTES < start_at (next_position st.now)) }
+    ensures past { IfNone result (MAX_AEAD_BYTES < start_at (position_of st.now)) }
 {
     if st.number > MAX_AEAD_BYTES / RECORD_BYTES || st.before > MAX_AEAD_BYTES {
         return None;
@@ -32,7 +32,7 @@ fn start(st: &RecordState) -> Option<u64>
 /// Returns at which byte of its stream the next record starts. Refuses a state that does not have this mark, or whose
 /// stream is past the limit.
 pub fn check_state(st: &RecordState, mark: u64) -> Result<u64, Refusal>
-    ensures start { IfOk result (λ at. at ≡ start_at (next_position st.now)) }
+    ensures start { IfOk result (λ at. at ≡ start_at (position_of st.now)) }
     ensures within { IfOk result (λ at. at ≤ MAX_AEAD_BYTES) }
     ensures right { IfOk result (λ at. (rest : ℤ) → mark_code st.now mark rest ≡ rest) }
     ensures wrong { IfErr result (λ refusal. (rest : ℤ)
@@ -59,7 +59,7 @@ pub fn check_record(
     ensures context { OnOk result (context ≤ MAX_CONTEXT_BYTES) }
     ensures room { OnOk result (RECORD_BYTES ≤ bytes) }
     ensures within { OnOk result (bytes ≤ RECORD_BYTES + MAX_MESSAGE_BYTES) }
-    ensures fits { OnOk result (start_at (next_position st.now) + bytes ≤ MAX_AEAD_BYTES) }
+    ensures fits { OnOk result (start_at (position_of st.now) + bytes ≤ MAX_AEAD_BYTES) }
     ensures right { OnOk result (record_code st.now mark context bytes ≡ success) }
     ensures wrong { IfErr result (λ refusal.
         record_code st.now mark context bytes ≡ number_of refusal) }

@@ -1,7 +1,7 @@
 //! The state of a record stream, which C owns between two calls.
 
 ghost use Rattle.std.specs.Prelude.{◌≡◌};
-ghost use Rattle.aegis_c_calls.specs.Codes.{next_position};
+ghost use Rattle.aegis_c_calls.specs.Codes.{position_of};
 
 use aegis::record::{RecordPosition, Version};
 
@@ -36,7 +36,7 @@ pub const ENDED: RecordState = RecordState {
 
 /// Returns the position of the next record of a state's stream.
 pub fn position(st: &RecordState) -> RecordPosition
-    ensures { result ≡ next_position st.now }
+    ensures { result ≡ position_of st.now }
 {
     RecordPosition {
         version: Version::Second,

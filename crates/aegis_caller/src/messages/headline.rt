@@ -2,7 +2,7 @@
 //! in any chunks opens in others, and with no other tag. Keystreams and MACs are those of the definitions.
 
 ghost use Rattle.std.specs.Prelude.{◌≡◌, ◌≢◌, ℕ, ◌+◌, ◌≤◌, ◌++◌, IsOk, List, OnErr, length, replicate, take};
-ghost use Rattle.aegis_base.specs.Chunks.{accepted, erased, joined};
+ghost use Rattle.aegis_base.specs.Chunks.{accepted, zeroed, joined};
 ghost use Rattle.aegis_base.specs.Lane.{IsTagLength};
 ghost use Rattle.aegis_base.specs.Message.{erased_byte};
 ghost use Rattle.aegis_variants.specs.Cipher.{keystream_of, mac_by, sealed_by};
@@ -52,7 +52,7 @@ pub fn open_exactly_in_chunks<const TAG_BYTES: usize>(
         → IsOk result
         × (take (length (accepted (length destination.old) chunks.now)) destination.new ≡ m) }
     ensures no_byte { OnErr result (destination.new
-        ≡ erased (length (accepted (length destination.old) chunks.now)) destination.old) }
+        ≡ zeroed (length (accepted (length destination.old) chunks.now)) destination.old) }
 {
     with_cipher!(cipher, TAG_BYTES, cipher => {
         cipher.open_chunks_len(associated_data, chunks, tag, destination)
@@ -129,7 +129,7 @@ pub fn open_with_another_tag<const TAG_BYTES: usize>(
     requires another_tag { (sealed_by cipher.now TAG_BYTES associated_data.now
         (joined chunks.now)).1 ≢ tag.now }
     ensures refused { result ≡ Err Error.InvalidTag }
-    ensures erased { destination.new ≡ erased (length sealed.now) destination.old }
+    ensures erased { destination.new ≡ zeroed (length sealed.now) destination.old }
 {
     with_cipher!(cipher, TAG_BYTES, cipher => {
         let mut decryptor = cipher.decryptor(associated_data, destination);

@@ -1,7 +1,7 @@
 //! Opening in chunks, into a destination that is borrowed until the end of the message.
 
 ghost use Rattle.std.specs.Prelude.{◌≡◌, ℕ, ◌+◌, ◌<◌, ◌≤◌, ◌++◌, IfErr, IfOk, IsOk, List, OnErr, OnOk, [], length, take};
-ghost use Rattle.aegis_base.specs.Chunks.{accepted, erased, joined};
+ghost use Rattle.aegis_base.specs.Chunks.{accepted, zeroed, joined};
 ghost use Rattle.aegis_base.specs.Variant.{Aegis128L};
 ghost use Rattle.aegis_base.specs.Message.{Opens};
 
@@ -30,7 +30,7 @@ pub fn open_two_chunks(
         → Opens Aegis128L 16 key.now nonce.now associated_data.now
         (first.now ++ second.now) tag.now m → IsOk result }
     ensures erased { OnErr result
-        (message.new ≡ erased (length first.now + length second.now) message.old) }
+        (message.new ≡ zeroed (length first.now + length second.now) message.old) }
 {
     let cipher = Aegis128L::<16>::new(key, nonce);
     let mut decryptor = cipher.decryptor(associated_data, message);
@@ -43,7 +43,7 @@ pub fn open_two_chunks(
 pub fn drop_early(key: &[u8; 16], nonce: &[u8; 16], chunk: &[u8], message: &mut [u8])
     requires message_within { length chunk.now ≤ MAX_AEAD_BYTES }
     requires room { length chunk.now ≤ length message.old }
-    ensures { message.new ≡ erased (length chunk.now) message.old }
+    ensures { message.new ≡ zeroed (length chunk.now) message.old }
 {
     let cipher = Aegis128L::<16>::new(key, nonce);
     let mut decryptor = cipher.decryptor(&[], message);
@@ -109,7 +109,7 @@ pub fn open_list_or_erase(
         → Opens Aegis128L 16 key.now nonce.now associated_data.now
         (accepted (length buffer.old) chunks.now) tag.now m → IsOk result }
     ensures erased { OnErr result
-        (buffer.new ≡ erased (length (accepted (length buffer.old) chunks.now)) buffer.old) }
+        (buffer.new ≡ zeroed (length (accepted (length buffer.old) chunks.now)) buffer.old) }
 {
     let cipher = Aegis128L::<16>::new(key, nonce);
     cipher.open_chunks_len(associated_data, chunks, tag, buffer)

@@ -2,7 +2,7 @@
 
 ghost use Rattle.std.specs.Prelude.{◌≡◌, ◌+◌, ◌*◌, ◌≤◌, ◌⊎◌, ◌++◌, ◌∷◌, [], IfErr, IfOk, IfSome, false, length};
 ghost use Rattle.std.specs.Bool.{OnFalse, OnTrue};
-ghost use Rattle.aegis.specs.Calls.{AreRecordsOfSomeVersion, IsRecordFault, after, progress_at, record_of};
+ghost use Rattle.aegis.specs.Calls.{AreRecordsOfSomeVersion, IsRecordFault, progress_after, progress_at, record_of};
 ghost use Rattle.aegis.specs.RecordStream.{start_at};
 
 use aegis::MAX_AEAD_BYTES;
@@ -82,12 +82,12 @@ pub fn read_on<'b, A: Allocator + Copy>(
     ensures next { IfOk result (λ found. IfSome found (λ read. OnFalse read.1.is_last
         (bytes.now ≡ record_of (progress_at key.now prefix.now context.now position)
         0 read.0.items
-        ++ (record_of (after (progress_at key.now prefix.now context.now position)
+        ++ (record_of (progress_after (progress_at key.now prefix.now context.now position)
         false read.0.items) 0 read.1.message.items ++ read.1.rest.now)))) }
     ensures last { IfOk result (λ found. IfSome found (λ read. OnTrue read.1.is_last
         (bytes.now ≡ record_of (progress_at key.now prefix.now context.now position)
         0 read.0.items
-        ++ (record_of (after (progress_at key.now prefix.now context.now position)
+        ++ (record_of (progress_after (progress_at key.now prefix.now context.now position)
         false read.0.items) 1 read.1.message.items ++ read.1.rest.now)))) }
 {
     let mut opener = RecordOpener::begin_at(key, prefix, context, position);

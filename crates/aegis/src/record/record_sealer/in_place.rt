@@ -2,7 +2,7 @@
 
 ghost use Rattle.std.specs.Prelude.{◌≡◌, ◌+◌, ◌≤◌, ◌++◌, ◌∷◌, [], List, false, length, ℕ};
 ghost use Rattle.aegis_base.specs.declared.error.TheConstants.{MAX_AEAD_BYTES};
-ghost use Rattle.aegis.specs.Calls.{Begun, after, message_in, record_of, sealing_of, start_of};
+ghost use Rattle.aegis.specs.Calls.{Begun, progress_after, message_in, record_of, sealing_of, start_of};
 ghost use Rattle.aegis.specs.RecordStream.{frame, limit};
 
 use crate::record::frame::TAG_BYTES;
@@ -45,7 +45,7 @@ impl RecordSealer<'_> {
         ensures written { buffer.new ≡ record_of self.old 0 (message_in buffer.old) }
         ensures begun { (ms : List (List ℕ)) (bytes : List ℕ) → Begun self.old ms bytes
             → Begun self.new (ms ++ message_in buffer.old ∷ []) (bytes ++ buffer.new) }
-        ensures progress { self.new ≡ after self.old false (message_in buffer.old) }
+        ensures progress { self.new ≡ progress_after self.old false (message_in buffer.old) }
         ensures taken { start_of self.new ≡ start_of self.old + length buffer.old }
     {
         seal_record_in_place(&self.cipher, self.position(), 0, buffer);

@@ -1,5 +1,5 @@
 use Rattle.std.proofs.Common.{subst, rules}
-use Rattle.aegis_c_calls.specs.PageCalls.{HasHeader, header_of}
+use Rattle.aegis_c_calls.specs.PageCalls.{BlockHasHeader, header_of}
 use Rattle.aegis_c_calls.proofs.OneRecord.{one_header}
 use Rattle.aegis_c_calls.proofs.page.page_header_open.Goals as goal
 
@@ -7,8 +7,8 @@ pub returns : goal.returns
 returns g c =
     let variant = g.S.LaneState.VARIANT in
     let found = header_of c.in-Some.header.page_bytes c.in-Some.header.id c.in-Some.header.counter c.in-Some.header.len in
-    let opened : HasHeader variant c.args.k.now c.args.header_block.now found =
-    subst (λ key. HasHeader variant key c.args.header_block.now found) c.in_ok-key.ensures.key c.in-Some.ensures.opened in
+    let opened : BlockHasHeader variant c.args.k.now c.args.header_block.now found =
+    subst (λ key. BlockHasHeader variant key c.args.header_block.now found) c.in_ok-key.ensures.key c.in-Some.ensures.opened in
     record {
       answered = search rules;
       lengths = search rules;

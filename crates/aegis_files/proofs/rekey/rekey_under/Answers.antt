@@ -1,6 +1,6 @@
 use Rattle.std.proofs.Common.{◌++◌, ◌∙◌, ap, arith, false, true}
 use Rattle.std.proofs.lemmas.Result.{err_from_is_err_and}
-use Rattle.aegis.specs.Calls.{Progress, after, message_of, record_of, start_of}
+use Rattle.aegis.specs.Calls.{Progress, progress_after, message_of, record_of, start_of}
 use Rattle.aegis.specs.RecordStream.{header}
 use Rattle.aegis.specs.declared.record.version.Version.TheVariants.{Second}
 use Rattle.aegis_files.specs.declared.error.FileError.TheVariants.{Stream}
@@ -63,7 +63,7 @@ pub records-preserved : goal.records-preserved
 records-preserved g c =
     let m = c.message-contents.ensures ∙ ap (message_of c.in_ok-opened.opened) c.deref.ensures.value in
     let sent = c.deref-in-records.ensures.value ∙ c.in_ok-seal_next.ensures.appended ∙ ap (λ x. c.records.out.items ++ record_of c.records.sealer 0 x) m in
-    rekeys_more _ _ _ _ _ _ _ _ _ _ _ _ _ _ _ _ _ _ _ c.records.invariant (rw c.if-opened.false at c.in_ok-opened.ensures.opened) (c.in_ok-seal_next.ensures.progress ∙ ap (after c.records.sealer _) m) sent c.in_ok-write.ensures.ok c.clear.ensures.items
+    rekeys_more _ _ _ _ _ _ _ _ _ _ _ _ _ _ _ _ _ _ _ c.records.invariant (rw c.if-opened.false at c.in_ok-opened.ensures.opened) (c.in_ok-seal_next.ensures.progress ∙ ap (progress_after c.records.sealer _) m) sent c.in_ok-write.ensures.ok c.clear.ensures.items
 
 pub records-smaller : goal.records-smaller
 records-smaller g c =

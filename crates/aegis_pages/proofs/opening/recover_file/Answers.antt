@@ -1,6 +1,6 @@
 use Rattle.std.proofs.Common.{◌∙◌, ap, Err, IsTrue, rules}
 use Rattle.std.proofs.lemmas.Result.{err_from_is_err_and}
-use Rattle.aegis_pages.specs.Commits.{IsAccepted, IsLeftByCommit, journal_key}
+use Rattle.aegis_pages.specs.Commits.{IsJournalAccepted, IsLeftByCommit, journal_key}
 use Rattle.aegis_pages.proofs.AcceptFacts.{accepts_all, fits_all, made_is_own, refused_all, was_read}
 use Rattle.aegis_pages.proofs.KnownFacts.{never_left}
 use Rattle.aegis_pages.proofs.RecoveryFacts.{kept_by_empty, recovers_again, rests_at_contents}
@@ -97,6 +97,6 @@ returns-then-not-is_accepted-clause-refused g c =
     let read = was_read (λ l. l.now) g.L.LaneState.VARIANT c.args.key.now (g.S.Storage.bytes c.args.storage.now) (g.J.Storage.bytes c.args.journal.now) c.in-Ok.content.items c.in_ok-header_block.header_block c.in_ok-header.header c.journaled_content-writes.result
     g.met.L.LaneState.one_two_or_four c.in-Ok.ensures.read c.in_ok-header.ensures.found c.in_ok-header.ensures.none c.in_ok-header_block.ensures.read c.in_ok-header_block.ensures.short
     (rw (c.deref.ensures.value, c.journal_key-journal_key.ensures) at c.journaled_content-writes.ensures.some) (rw (c.deref.ensures.value, c.journal_key-journal_key.ensures) at c.journaled_content-writes.ensures.none) in
-    let not : IsAccepted g.L.LaneState.VARIANT c.args.key.now c.in_ok-header_block.header_block c.in_ok-header.header read.0 c.in-Ok.content.items → ⊥ =
+    let not : IsJournalAccepted g.L.LaneState.VARIANT c.args.key.now c.in_ok-header_block.header_block c.in_ok-header.header read.0 c.in-Ok.content.items → ⊥ =
     λ accepted. let yes : IsTrue c.is_accepted.result = (c.is_accepted.ensures read.0 read.2).1 (rw c.deref-2.ensures.value accepted) in absurd (search rules) in
     refused_all _ _ _ _ _ _ _ _ read.1 not _ c.left_alone.ensures.some c.left_alone.ensures.none

@@ -1,6 +1,6 @@
 use Rattle.std.proofs.Common.{◌++◌, ◌∙◌, refl, sym}
 use Rattle.std.proofs.lemmas.List.{take_at}
-use Rattle.aegis_pages.specs.Layouts.{associated_data, inner, nonce_bytes}
+use Rattle.aegis_pages.specs.Layouts.{page_associated_data, inner, nonce_bytes}
 use Rattle.aegis_pages.proofs.SealedFacts.{cut, moved, opens_parts}
 use Rattle.aegis_pages.proofs.page.seal_page_at.Goals as goal
 
@@ -12,7 +12,7 @@ returns-clause-opens g c =
     c.requires.long c.split_at_mut-head.ensures.front c.split_at_mut-head.ensures.back c.split_at_mut-contents.ensures.front c.split_at_mut-contents.ensures.back in
     opens_parts layout c.args.number _ _ _ (inner layout old) (c.copy_from_slice.ensures.len ∙ parts.first) (c.copy_from_slice-2.ensures.len ∙ parts.last)
     (moved g.L.LaneState.VARIANT layout.variant c.split_at_mut-contents.result.0.now (inner layout old) c.cipher.result.key layout.key c.cipher.result.nonce c.copy_from_slice.new.self
-    c.associated_data-ad.result (associated_data layout c.args.number) _ _ c.encrypt_in_place-tag.result c.copy_from_slice-2.new.self
+    c.associated_data-ad.result (page_associated_data layout c.args.number) _ _ c.encrypt_in_place-tag.result c.copy_from_slice-2.new.self
     (sym c.cipher.ensures.variant) parts.inside c.cipher.ensures.key (c.cipher.ensures.nonce ∙ sym c.copy_from_slice.ensures.after) c.associated_data-ad.ensures refl (sym c.copy_from_slice-2.ensures.after)
     (sym c.encrypt_in_place-tag.ensures))
 

@@ -3,7 +3,7 @@ use Rattle.std.proofs.Math.Nat.{zero-div}
 use Rattle.aegis_base.specs.Variant.{rate}
 use Rattle.aegis_base.specs.Lane.{init, update}
 use Rattle.aegis_base.specs.Mac.{mac_input}
-use Rattle.aegis_base.specs.Message.{after, after_all, lane_before, share_at}
+use Rattle.aegis_base.specs.Message.{lane_after, after_all, lane_before, share_at}
 use Rattle.aegis_base.specs.Context.{Stands}
 use Rattle.aegis_base.proofs.HeldFacts.{held-along}
 use Rattle.aegis_base.proofs.MacFacts.{mac_input-none, mac_input-some}
@@ -24,7 +24,7 @@ returns-then-self-eq0-clause-lanes g c key nonce x stands j inside =
     let zero_blocks : length x / rate L.VARIANT ≡ 0 =
     ap (λ (n : ℕ). n / rate L.VARIANT) (sym is.1 ∙ c.if-self-eq0.true) ∙ zero-div (rate L.VARIANT) in
     let begun : L.lane s.state j ≡ init L.VARIANT key nonce j =
-    (held-along L.VARIANT _ (L.lane s.state) s.block x _ is.3).whole j inside ∙ ap (after L.VARIANT (lane_before L.VARIANT key nonce [] j) j x) zero_blocks
+    (held-along L.VARIANT _ (L.lane s.state) s.block x _ is.3).whole j inside ∙ ap (lane_after L.VARIANT (lane_before L.VARIANT key nonce [] j) j x) zero_blocks
     ∙ after-none L.VARIANT (lane_before L.VARIANT key nonce [] j) j x
     ∙ before-none L.VARIANT key nonce j count in
     c.absorb.ensures.lanes j inside

@@ -2,7 +2,7 @@ use Rattle.std.proofs.Common.{◌≡◌, ℕ, ◌≤◌, List, drop, length, tak
 use Rattle.aegis_base.specs.Chunks.{accepted_after}
 use Rattle.aegis_base.specs.Message.{ciphertext}
 use Rattle.aegis_base.specs.Context.{Continues, Stands}
-use Rattle.aegis_engine.specs.Private.{Fits}
+use Rattle.aegis_engine.specs.Private.{FitsRoom}
 use Rattle.aegis_engine.proofs.context.Context.open_all.Given as goal
 
 abbrev pub invariant-loop-chunk : goal.invariant-loop-chunk
@@ -12,7 +12,7 @@ invariant-loop-chunk g l =
     let before = take l.initial.self.message_bytes l.initial.dst in
     let beginning = take l.self.message_bytes l.dst in
     record {
-      fits : Fits l.self.message_bytes (length l.dst);
+      fits : FitsRoom l.self.message_bytes (length l.dst);
       long : length l.dst ≡ length l.initial.dst;
       stands : Continues V old before l.self beginning;
       sealed : (key nonce ad : List ℕ) → Stands V old key nonce ad before
