@@ -81,9 +81,10 @@ HUNKRAVY_MUST_USE int hunkravy_file_open(hunkravy_file **file, const char *path,
  * Commits the changes, and frees the file whatever happens. A process that did not open the file only frees it. A null
  * pointer is no file, and the result is HUNKRAVY_OK.
  *
- * Nothing is committed, and the result is the reason's code, if a batch is open, if the file is broken, or if a change or
- * a commit has failed and none has been committed since: the pending changes may be a part of what was meant. A failure in
- * a batch that was undone does not count, nor does one before hunkravy_file_discard, nor EINVAL for a null pointer.
+ * Nothing is committed, and the result is the reason's code, if a batch is open or if the file is broken. The same holds
+ * if a change or a commit has failed and none has been committed since: the pending changes may be a part of what was
+ * meant. A failure in a batch that was undone does not count, nor does one before hunkravy_file_discard, nor EINVAL for a
+ * null pointer.
  */
 HUNKRAVY_MUST_USE int hunkravy_file_close(hunkravy_file *file);
 
