@@ -7,7 +7,7 @@ use Rattle.aegis.specs.declared.record.error.RecordError.TheVariants as errors
 use Rattle.aegis.specs.declared.record.position.RecordPosition.{RecordPosition}
 use Rattle.aegis.specs.declared.record.version.Version.{Version}
 use Rattle.aegis.specs.declared.record.version.Version.TheVariants.{First, Second}
-use Rattle.aegis.specs.Calls.{IsRefused, OpensTo, messages}
+use Rattle.aegis.specs.RecordResults.{IsRefused, OpensTo, messages}
 use Rattle.aegis.specs.RecordStream.{AtEnd, AtHeader, AtRecord, HasFault, IsFaultAt, IsFaultOf, IsOneFault, Parts, parts, AreWithin, IsOneRecordStream, IsRecordStream, Sealing, first_position, flag_before, frame, frames, beginning, header, limit, next_position, position_after}
 use Rattle.aegis.specs.Private.{IsSealing}
 use Rattle.aegis.proofs.Reading.{parts_frame}

@@ -3,7 +3,7 @@ use borrow.Rule.Slice.PartMut.{put_mid}
 use Rattle.std.proofs.Common.{◌≡◌, ℕ, ◌+◌, ◌-◌, ◌<◌, ◌≤◌, List, ◌++◌, length, take, drop, get_or, refl, sym, ap, ◌∙◌, append_assoc, arith}
 use Rattle.std.proofs.lemmas.List.{drop_at, get_or-take, get_or_append_left, length-append, length-drop, length-take, take_at, take-append-drop, take-append-le}
 use Rattle.aegis.specs.declared.record.version.Version.{Version}
-use Rattle.aegis.specs.Calls.{message_at, rest_at, with_message}
+use Rattle.aegis.specs.RecordResults.{message_at, rest_at, with_message}
 use Rattle.aegis.specs.RecordStream.{Parts}
 use Rattle.aegis.proofs.Reading.{Cut}
 

@@ -6,7 +6,7 @@ use Rattle.std.proofs.lemmas.List.{length-append}
 use Rattle.aegis.specs.declared.record.position.RecordPosition.{RecordPosition}
 use Rattle.aegis.specs.declared.record.version.Version.{Version}
 use Rattle.aegis_base.specs.Chunks.{texts}
-use Rattle.aegis.specs.Calls.{Begun, Progress, start_of}
+use Rattle.aegis.specs.RecordResults.{Begun, Progress, start_of}
 use Rattle.aegis.specs.RecordStream.{AreRecords, IsRecordStream, Sealing, beginning, first_position, flag_before, frame, frames, frames_length, header, next_position, position_after, records_length, sealed, start_at}
 use Rattle.aegis.specs.Private.{IsSealing}
 use Rattle.aegis.proofs.Frames.{header_size}

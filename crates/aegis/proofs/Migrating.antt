@@ -5,7 +5,7 @@ use Rattle.aegis.specs.declared.record.error.RecordError.{RecordError}
 use Rattle.aegis.specs.declared.record.error.RecordError.TheVariants as errors
 use Rattle.aegis.specs.declared.record.version.Version.{Version}
 use Rattle.aegis.specs.declared.record.version.Version.TheVariants.{Second}
-use Rattle.aegis.specs.Calls.{Begun, MigratesTo, Progress, start_of}
+use Rattle.aegis.specs.RecordResults.{Begun, MigratesTo, Progress, start_of}
 use Rattle.aegis.specs.Private.{IsUnder}
 use Rattle.aegis.specs.RecordStream.{AreRecords, IsFault, sealed}
 use Rattle.aegis.proofs.Frames.{one_record_stream, only_memory}

@@ -7,7 +7,7 @@ use Rattle.std.specs.Vec.{with_items}
 use Rattle.aegis_base.specs.Variant.{Aegis256}
 use Rattle.aegis_base.specs.Message.{ciphertext, tag}
 use Rattle.aegis_base.specs.Context.{Held, Stands}
-use Rattle.aegis.specs.Calls.{sealing_of}
+use Rattle.aegis.specs.RecordResults.{sealing_of}
 use Rattle.aegis.specs.RecordStream.{record_associated_data, nonce, sealed}
 use Rattle.aegis.specs.declared.record.position.RecordPosition.{RecordPosition}
 use Rattle.aegis.specs.declared.record.record_cipher.RecordCipher.{RecordCipher}

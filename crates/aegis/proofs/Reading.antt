@@ -9,7 +9,7 @@ use Rattle.aegis.specs.declared.record.error.RecordError.TheVariants as errors
 use Rattle.aegis.specs.declared.record.position.RecordPosition.{RecordPosition}
 use Rattle.aegis.specs.declared.record.version.Version.{Version}
 use Rattle.aegis.specs.declared.record.version.Version.TheVariants.{First, Second}
-use Rattle.aegis.specs.Calls.{IsRecord}
+use Rattle.aegis.specs.RecordResults.{IsRecord}
 use Rattle.aegis.specs.RecordStream.{HasFault, IsFaultAt, Parts, length_at, parts, parts_after, Sealing, frame, limit}
 use Rattle.aegis.specs.Private.{IsSealing}
 

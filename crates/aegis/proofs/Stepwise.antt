@@ -10,7 +10,7 @@ use Rattle.aegis.specs.declared.record.error.RecordError.{RecordError}
 use Rattle.aegis.specs.declared.record.error.RecordError.TheVariants as errors
 use Rattle.aegis.specs.declared.record.position.RecordPosition.{RecordPosition}
 use Rattle.aegis.specs.declared.record.version.Version.{Version}
-use Rattle.aegis.specs.Calls.{AcceptsNext, AreRecordsOfSomeVersion, Begun, IsFirstFault, IsRecord, IsRecordFault, OpensNext, Progress, progress_after, last_flag, progress_at, record_of, sealing_in, start_of}
+use Rattle.aegis.specs.RecordResults.{AcceptsNext, AreRecordsOfSomeVersion, Begun, IsFirstFault, IsRecord, IsRecordFault, OpensNext, Progress, progress_after, last_flag, progress_at, record_of, sealing_in, start_of}
 use Rattle.aegis.specs.RecordStream.{AreRecords, AreWithin, AtEnd, AtHeader, AtRecord, HasFault, IsFault, IsFaultAt, IsFaultOf, IsOneRecordStream, Parts, Sealing, beginning, first_position, frame, frames, header, limit, parts, position_after, sealed}
 use Rattle.aegis.specs.Private.{IsUnder}
 use Rattle.aegis.proofs.Frames.{Closes, closes, frame_one, frame_sound, beginning_append, beginning_follows, beginning_push, header_size, one_record_stream, position_append, version_after, within_append}

@@ -1,3 +1,3 @@
-pub mod Calls
+pub mod RecordResults
 pub mod Private
 pub mod RecordStream

@@ -4,7 +4,7 @@ use Rattle.aegis.specs.declared.record.error.RecordError.{RecordError}
 use Rattle.aegis.specs.declared.record.frame.Frame.{Frame}
 use Rattle.aegis.specs.declared.record.position.RecordPosition.{RecordPosition}
 use Rattle.aegis.specs.RecordStream.{Parts, Sealing, frame, sealed}
-use Rattle.aegis.specs.Calls.{Progress, progress_at}
+use Rattle.aegis.specs.RecordResults.{Progress, progress_at}
 
 -- the result is these parts of a record, or their fault
 abbrev pub HasParts : Result Frame RecordError → Result Parts RecordError → Type 0

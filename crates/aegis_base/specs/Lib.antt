@@ -5,5 +5,5 @@ pub mod Laws
 pub mod Mac
 pub mod Message
 pub mod Private
-pub mod Saved
+pub mod SavedLanes
 pub mod Variant

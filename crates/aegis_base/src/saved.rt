@@ -1,7 +1,7 @@
 //! Saved lanes: their rows as bytes, which a caller may keep between two calls.
 
 ghost use Rattle.std.specs.Prelude.{◌≡◌, ℕ, ◌<◌};
-ghost use Rattle.aegis_base.specs.Saved.{saved_lane};
+ghost use Rattle.aegis_base.specs.SavedLanes.{saved_lane};
 
 use crate::state::LaneState;
 

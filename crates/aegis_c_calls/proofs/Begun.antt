@@ -1,6 +1,6 @@
 -- What a state stands for, before its first record and after one more.
 use Rattle.std.proofs.Common.{◌≡◌, ℕ, ◌+◌, ◌-◌, ◌∙◌, ◌≤◌, List, [], ◌∷◌, ◌++◌, length, ap, arith}
-use Rattle.aegis.specs.Calls.{Begun, record_of}
+use Rattle.aegis.specs.RecordResults.{Begun, record_of}
 use Rattle.aegis.specs.RecordStream.{AreRecords, header}
 use Rattle.aegis.specs.declared.record.version.TheConstants.{MAX_MESSAGE_BYTES}
 use Rattle.aegis.specs.declared.record.version.Version.TheVariants.{Second}

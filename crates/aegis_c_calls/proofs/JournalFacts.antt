@@ -7,7 +7,7 @@ use Rattle.aegis_base.specs.Context.{Stands}
 use Rattle.aegis_base.specs.Mac.{mac}
 use Rattle.aegis_base.specs.Variant.{Aegis128L, Variant}
 use Rattle.aegis_base.proofs.MacFacts.{length_mac}
-use Rattle.aegis_engine.specs.Saved.{HasTaken, IsSaved}
+use Rattle.aegis_engine.specs.SavedContexts.{HasTaken, IsSaved}
 use Rattle.aegis_engine.specs.declared.saved.SavedContext.{SavedContext}
 use Rattle.aegis_pages.specs.Commits.{AreWritesOf, IsJournalAccepted, IsOfCommit, head_bytes, journal_key}
 use Rattle.aegis_pages.specs.declared.header.FileHeader.{FileHeader}

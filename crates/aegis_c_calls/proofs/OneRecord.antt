@@ -10,7 +10,7 @@ use Rattle.aegis_pages.specs.declared.layout.TheConstants.{HEADER_NUMBER}
 use Rattle.aegis_pages.proofs.SealedFacts.{one_contents, one_layout, opens_one}
 use Rattle.aegis_storage.specs.Disk.{part_at}
 use Rattle.aegis_c_calls.specs.PageCalls.{BlockHasHeader, file_of, header_of}
-use Rattle.aegis.specs.Calls.{IsRecord, IsRecordFault, Progress, message_at, message_in, record_of, rest_at, sealing_in}
+use Rattle.aegis.specs.RecordResults.{IsRecord, IsRecordFault, Progress, message_at, message_in, record_of, rest_at, sealing_in}
 use Rattle.aegis.specs.RecordStream.{frame, limit}
 use Rattle.aegis.specs.declared.record.error.RecordError.{RecordError}
 use Rattle.aegis.proofs.Frames.{frame_one, frame_sound}

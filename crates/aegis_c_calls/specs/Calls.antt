@@ -5,11 +5,11 @@ use Rattle.std.specs.Prelude.{◌≡◌, ◌≢◌, ℕ, ℤ, List, [], Option, 
 use Rattle.aegis_base.specs.Variant.{Variant, Family256, key_length, max_aead_bytes}
 use Rattle.aegis_base.specs.Mac.{mac}
 use Rattle.aegis_base.specs.Message.{Opens, ciphertext, keystream, seal, tag as tag_of, xor_keystream, erased_byte}
-use Rattle.aegis_engine.specs.Saved.{HasChecked, HasSealed, HasTaken, IsSaved}
+use Rattle.aegis_engine.specs.SavedContexts.{HasChecked, HasSealed, HasTaken, IsSaved}
 use Rattle.aegis_c_calls.specs.Codes.{checking_role, chunk_code, context_code, decrypting_role, encrypting_role, ended_state, state_code, tag_code, head_code, lengths_code, mac_code, mac_final_code, mac_role, message_code, message_role, position_of, number_of, opened_code, opening_mark, record_code, sealing_mark, success, the, variant_code}
 use Rattle.aegis_c_calls.specs.declared.refusal.Refusal.TheVariants.{InvalidTag, MessageTooLong, UnknownHeader}
 use Rattle.aegis_c_calls.specs.declared.state.State.{State}
-use Rattle.aegis.specs.Calls.{Begun, Progress, message_in, progress_at, record_of, with_message}
+use Rattle.aegis.specs.RecordResults.{Begun, Progress, message_in, progress_at, record_of, with_message}
 use Rattle.aegis.specs.declared.record.version.Version.TheVariants.{Second}
 use Rattle.aegis_c_calls.specs.declared.record.state.RecordState.{RecordState}
 use Rattle.aegis.specs.RecordStream.{AreRecords, header, length_at, limit, start_at, record_overhead, prefix_bytes}

@@ -7,7 +7,7 @@ use Rattle.aegis_c_calls.specs.declared.record.state.RecordState.{RecordState}
 use Rattle.aegis.specs.RecordStream.{length_at, limit, max_context_bytes, start_at, record_overhead}
 use Rattle.aegis_c_calls.specs.declared.refusal.Refusal.TheVariants.{InvalidTag, MessageTooLong, ContextTooLong, UnknownHeader, WrongRecordLength, WrongState, WrongNonceLength, WrongKeyLength, DataTooLong, WrongTagLength, WrongVariant, WrongPageSize, FileTooLong, WrongMessageLength, WrongJournal, NoWrite}
 use Rattle.aegis_base.specs.Variant.{Aegis128L, Aegis128X2, Aegis128X4, Aegis256, Aegis256X2, Aegis256X4, Variant, key_length, long_tag_bytes, max_aead_bytes}
-use Rattle.aegis_engine.specs.Saved.{begun_mark}
+use Rattle.aegis_engine.specs.SavedContexts.{begun_mark}
 use Rattle.aegis_engine.specs.declared.saved.SavedContext.{SavedContext}
 use Rattle.aegis_c_calls.specs.declared.refusal.Refusal.{Refusal}
 use Rattle.aegis_c_calls.specs.declared.state.State.{State}

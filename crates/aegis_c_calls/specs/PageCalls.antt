@@ -8,7 +8,7 @@ use Rattle.aegis_c_calls.specs.declared.refusal.Refusal.TheVariants.{InvalidTag,
 use Rattle.aegis_pages.specs.Layouts.{IsHeaderBlock, Layout, OpensAt, journal_beginning, plaintext_header_bytes, header_block_bytes, page_place}
 use Rattle.aegis_pages.specs.declared.header.FileHeader.{FileHeader}
 use Rattle.aegis_storage.specs.Disk.{Writes, part_at}
-use Rattle.aegis_engine.specs.Saved.{IsSaved}
+use Rattle.aegis_engine.specs.SavedContexts.{IsSaved}
 use Rattle.aegis_c_calls.specs.declared.state.State.{State}
 use Rattle.aegis_pages.specs.Commits.{IsJournalAccepted, IsOfCommit, head_bytes, journal_key}
 use Rattle.aegis_storage.specs.Journal.{AreWithinStorage, IsJournal, authenticated, entries, entry, max_journal_bytes, max_storage_bytes, journal_start_bytes, journal_beginning_bytes}

@@ -4,7 +4,7 @@
 
 ghost use Rattle.std.specs.Prelude.{◌≡◌, ◌≢◌, ◌+◌, ◌≤◌, ◌∷◌, [], ℕ, ℤ, IfErr, IsOk, List, OnOk, Some, length};
 ghost use Rattle.aegis_base.specs.Variant.{Aegis128L, key_length};
-ghost use Rattle.aegis_engine.specs.Saved.{HasTaken};
+ghost use Rattle.aegis_engine.specs.SavedContexts.{HasTaken};
 ghost use Rattle.aegis_c_calls.specs.Private.{IsJournaled, IsOwnCommit, IsWhole, code_of};
 ghost use Rattle.aegis_c_calls.specs.Codes.{entry_code, journal_code, number_of, success};
 ghost use Rattle.aegis_storage.specs.Disk.{Writes, part_at};

@@ -4,9 +4,9 @@ use Rattle.std.proofs.lemmas.List.{append-nil}
 use Rattle.aegis_base.specs.Variant.{Variant, rate}
 use Rattle.aegis_base.specs.Message.{block_count, ciphertext}
 use Rattle.aegis_base.specs.Context.{Stands, held_by}
-use Rattle.aegis_base.specs.Saved.{saved_lane}
+use Rattle.aegis_base.specs.SavedLanes.{saved_lane}
 use Rattle.aegis_base.proofs.HeldFacts.{along-held, held-along}
-use Rattle.aegis_engine.specs.Saved.{HasChecked, IsSaved, held_in}
+use Rattle.aegis_engine.specs.SavedContexts.{HasChecked, IsSaved, held_in}
 use Rattle.aegis_engine.specs.declared.saved.SavedContext.{SavedContext}
 use Rattle.aegis_engine.specs.declared.saved.TheConstants.{BEGUN}
 

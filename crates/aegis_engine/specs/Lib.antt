@@ -2,4 +2,4 @@ pub mod Beginning
 pub mod Chunk
 pub mod Pass
 pub mod Private
-pub mod Saved
+pub mod SavedContexts

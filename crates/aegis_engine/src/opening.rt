@@ -28,7 +28,8 @@ impl<S: LaneState> Context<S> {
         ensures message_bytes { OnOk result
             (self.new.message_bytes ≡ self.old.message_bytes + length chunk.now) }
         ensures fits { FitsRoom self.new.message_bytes (length dst.new) }
-        ensures appends { AppendsChunk dst.old self.old.message_bytes dst.new self.new.message_bytes }
+        ensures appends { AppendsChunk dst.old self.old.message_bytes
+            dst.new self.new.message_bytes }
         ensures unchanged { OnErr result ((self.new ≡ self.old) × (dst.new ≡ dst.old)) }
     {
         let so_far = self.message_bytes() as usize;

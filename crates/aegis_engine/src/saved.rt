@@ -12,7 +12,7 @@ ghost use Rattle.aegis_base.specs.Message.{Opens, block_count, ciphertext, tag a
 ghost use Rattle.aegis_base.specs.Context.{Stands, held_by};
 ghost use Rattle.aegis_base.specs.Variant.{key_length};
 ghost use Rattle.aegis_engine.specs.Pass.{absorbed, given, ciphertext_in};
-ghost use Rattle.aegis_engine.specs.Saved.{HasChecked, HasSealed, HasTaken, IsSaved};
+ghost use Rattle.aegis_engine.specs.SavedContexts.{HasChecked, HasSealed, HasTaken, IsSaved};
 
 use crate::context::{Context, absorb_bytes, pass_bytes};
 use crate::pass::{Pass, RateBlock, ZEROS};

@@ -8,7 +8,7 @@ use Rattle.aegis_base.specs.declared.error.TheConstants.{MAX_AEAD_BYTES}
 use Rattle.aegis.specs.declared.record.error.RecordError.{RecordError}
 use Rattle.aegis.specs.declared.record.error.RecordError.TheVariants as errors
 use Rattle.aegis.specs.declared.record.version.Version.TheVariants.{Second}
-use Rattle.aegis.specs.Calls.{last_flag}
+use Rattle.aegis.specs.RecordResults.{last_flag}
 use Rattle.aegis.specs.RecordStream.{AreRecords, IsFault, first_position, frames, header, position_after, sealed, start_at}
 use Rattle.aegis.proofs.Frames.{one_fault}
 use Rattle.aegis.proofs.Lengths.{length-frames, start_after}

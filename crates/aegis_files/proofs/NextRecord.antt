@@ -4,7 +4,7 @@ use Rattle.std.proofs.lemmas.List.{append-nil, drop-append-le, length-append, le
 use Rattle.std.specs.Bool.{OnFalse, OnTrue}
 use Rattle.std.specs.Io.KnownBytes.{Consumes, IsAtEnd}
 use Rattle.aegis.proofs.Stepwise.{begun_parts, length-record}
-use Rattle.aegis.specs.Calls.{IsFirstFault, OpensNext, Progress, last_flag, message_of, record_of}
+use Rattle.aegis.specs.RecordResults.{IsFirstFault, OpensNext, Progress, last_flag, message_of, record_of}
 use Rattle.aegis.specs.RecordStream.{IsFault, limit, parts}
 use Rattle.aegis.specs.declared.record.error.RecordError.{RecordError}
 use Rattle.aegis.specs.declared.record.error.RecordError.TheVariants as errors

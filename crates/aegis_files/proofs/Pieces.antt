@@ -7,7 +7,7 @@ use Rattle.std.proofs.Math.Seq.{drop-nil, take-add, take-nil}
 use Rattle.std.specs.List.{concat}
 use Rattle.std.specs.Io.KnownBytes.{Appends, Consumes, IsAtEnd, Keeps}
 use Rattle.aegis.specs.declared.record.position.RecordPosition.{RecordPosition}
-use Rattle.aegis.specs.Calls.{Begun, Progress}
+use Rattle.aegis.specs.RecordResults.{Begun, Progress}
 use Rattle.aegis.specs.RecordStream.{frames_length, next_position, position_after}
 
 pub concat-push : (ms : List (List ℕ)) (m : List ℕ) → concat (ms ++ m ∷ []) ≡ concat ms ++ m

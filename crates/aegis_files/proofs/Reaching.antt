@@ -4,7 +4,7 @@ use Rattle.std.proofs.lemmas.List.{length-append}
 use Rattle.std.specs.List.{concat}
 use Rattle.aegis.specs.declared.record.position.RecordPosition.{RecordPosition}
 use Rattle.aegis.specs.declared.record.version.Version.TheVariants.{Second}
-use Rattle.aegis.specs.Calls.{Progress, progress_after, last_flag, progress_at, record_of, start_of}
+use Rattle.aegis.specs.RecordResults.{Progress, progress_after, last_flag, progress_at, record_of, start_of}
 use Rattle.aegis.specs.RecordStream.{AreRecords, AreWithin, first_position, frames, frames_length, header, limit, position_after, sealed, start_at}
 use Rattle.aegis.proofs.Frames.{frames_push, position_append, version_after, within_append}
 use Rattle.aegis.proofs.Lengths.{length-frames, start_after}

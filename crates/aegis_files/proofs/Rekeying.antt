@@ -8,7 +8,7 @@ use Rattle.aegis_base.specs.declared.error.TheConstants.{MAX_AEAD_BYTES}
 use Rattle.aegis.specs.declared.record.error.RecordError.TheVariants as errors
 use Rattle.aegis.specs.declared.record.length.TheConstants.{RECORD_BYTES}
 use Rattle.aegis.specs.declared.record.version.Version.TheVariants.{Second}
-use Rattle.aegis.specs.Calls.{Progress, progress_after, last_flag, progress_at, record_of, start_of}
+use Rattle.aegis.specs.RecordResults.{Progress, progress_after, last_flag, progress_at, record_of, start_of}
 use Rattle.aegis.specs.RecordStream.{AreWithin, beginning, first_position, header, limit, sealed}
 use Rattle.aegis_files.specs.declared.error.FileError.{FileError}
 use Rattle.aegis_files.specs.declared.error.FileError.TheVariants.{Stream}

@@ -14,7 +14,7 @@ use Rattle.aegis.proofs.Stepwise.{length-record, sealed_one_stream}
 use Rattle.aegis.specs.declared.record.length.TheConstants.{RECORD_BYTES}
 use Rattle.aegis.specs.declared.record.position.RecordPosition.{RecordPosition}
 use Rattle.aegis.specs.declared.record.version.Version.TheVariants.{Second}
-use Rattle.aegis.specs.Calls.{Progress, progress_after, last_flag, message_at, message_in, progress_at, record_of, start_of}
+use Rattle.aegis.specs.RecordResults.{Progress, progress_after, last_flag, message_at, message_in, progress_at, record_of, start_of}
 use Rattle.aegis.specs.RecordStream.{AreRecords, AreWithin, Sealing, beginning, first_position, frame, frames, header, position_after, sealed}
 use Rattle.aegis_files.specs.declared.error.FileError.{FileError}
 use Rattle.aegis_files.specs.declared.error.FileError.TheVariants.{TooLong}

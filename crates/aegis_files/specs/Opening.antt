@@ -10,7 +10,7 @@ use Rattle.aegis.specs.declared.record.version.Version.TheVariants.{Second}
 use Rattle.aegis.specs.RecordStream.{AreRecords, AreWithin, IsFault, beginning, first_position, frames, header, position_after, sealed, start_at, record_overhead, prefix_bytes}
 use Rattle.aegis.specs.declared.record.error.RecordError.{RecordError}
 use Rattle.aegis.specs.declared.record.error.RecordError.TheVariants as errors
-use Rattle.aegis.specs.Calls.{AreRecordsOfSomeVersion, Begun, last_flag, progress_at}
+use Rattle.aegis.specs.RecordResults.{AreRecordsOfSomeVersion, Begun, last_flag, progress_at}
 use Rattle.aegis_files.specs.declared.range.OpenedRange.{OpenedRange}
 use Rattle.aegis_files.specs.declared.range.ContentsRange.{ContentsRange}
 use Rattle.aegis.specs.declared.record.position.RecordPosition.{RecordPosition}

@@ -8,7 +8,7 @@ use Rattle.aegis.specs.declared.record.version.Version.TheVariants.{Second}
 use Rattle.aegis.specs.RecordStream.{IsFault, header, limit, prefix_bytes}
 use Rattle.aegis.specs.declared.record.error.RecordError.{RecordError}
 use Rattle.aegis.specs.declared.record.error.RecordError.TheVariants as errors
-use Rattle.aegis.specs.Calls.{Begun, Progress, progress_after, last_flag, record_of, start_of}
+use Rattle.aegis.specs.RecordResults.{Begun, Progress, progress_after, last_flag, record_of, start_of}
 use Rattle.aegis_files.specs.Opening.{IsReadError}
 
 -- The bytes `from..end` of a buffer were read: all up to `to`, or all that were left. Those before them are as they were, so if

@@ -2,7 +2,7 @@
 
 ghost use Rattle.std.specs.Prelude.{◌≡◌, ◌+◌, ◌≤◌, [], ◌++◌, Err, IfErr, IfOk, List, length, take, ℕ};
 ghost use Rattle.std.specs.Io.KnownBytes.{Consumes, IsAtEnd};
-ghost use Rattle.aegis.specs.Calls.{message_of, record_of, start_of};
+ghost use Rattle.aegis.specs.RecordResults.{message_of, record_of, start_of};
 ghost use Rattle.aegis.specs.RecordStream.{parts};
 ghost use Rattle.aegis_base.specs.declared.error.TheConstants.{MAX_AEAD_BYTES};
 ghost use Rattle.aegis_files.specs.Private.{FailsNext, ReadsNext};

@@ -2,7 +2,7 @@
 
 ghost use Rattle.std.specs.Prelude.{◌≡◌, ◌+◌, ◌<◌, ◌≤◌, ◌++◌, Err, IfErr, IfOk, IfSome, List, OnOk, length, ℕ};
 ghost use Rattle.std.specs.Io.KnownBytes.{Appends, Consumes, IsAtEnd};
-ghost use Rattle.aegis.specs.Calls.{message_at, progress_at};
+ghost use Rattle.aegis.specs.RecordResults.{message_at, progress_at};
 ghost use Rattle.aegis.specs.RecordStream.{first_position, header};
 ghost use Rattle.aegis.specs.declared.record.version.Version.TheVariants.{Second};
 ghost use Rattle.aegis.specs.declared.record.error.RecordError.{RecordError};

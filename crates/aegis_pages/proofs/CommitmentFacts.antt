@@ -5,7 +5,7 @@ use Rattle.std.specs.Int.{to_le_bytes, w64}
 use Rattle.aegis_base.specs.Mac.{mac}
 use Rattle.aegis_base.specs.Context.{Stands}
 use Rattle.aegis_base.specs.Variant.{Variant}
-use Rattle.aegis_engine.specs.Saved.{IsSaved}
+use Rattle.aegis_engine.specs.SavedContexts.{IsSaved}
 use Rattle.aegis_engine.specs.declared.saved.SavedContext.{SavedContext}
 use Rattle.aegis_pages.specs.Commits.{HasOneCommitment, commitment, page_count, page_tag, page_tags}
 use Rattle.aegis_aes.specs.Lanes.{IsLaneCount}

@@ -18,23 +18,23 @@
 
 mod atomic;
 pub mod bytes;
-mod calls;
 mod driver;
 mod journal;
 mod journal_file;
 pub mod laws;
 mod pending;
+mod read_all;
 mod recovery;
 mod steps;
 mod store;
 
 pub use atomic::commit;
-pub use calls::read_all;
 pub use journal::{
     BEGINNING_BYTES, MAX_JOURNAL_BYTES, NONCE_BYTES, first_write, journaled_content,
 };
 pub use journal_file::JournalFile;
 pub use pending::PendingWrite;
+pub use read_all::read_all;
 pub use recovery::recover;
 pub use steps::{Step, commit_step, recovery_step};
 pub use store::{MAX_STORAGE_BYTES, NoJournal, Storage};

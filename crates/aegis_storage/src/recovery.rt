@@ -5,9 +5,9 @@ ghost use Rattle.aegis_storage.specs.Disk.{Writes};
 ghost use Rattle.aegis_storage.specs.Journal.{AreWithinStorage, IsNoOtherJournal, IsRecoverError, KeepsBeginning, RecoversKnown, RecoversUnlessOtherJournal, RestsAtEither, entries};
 ghost use Rattle.aegis_storage.specs.Steps.{AreRedone};
 
-use crate::calls::read_all;
 use crate::driver::take_steps;
 use crate::journal::journaled_content;
+use crate::read_all::read_all;
 use crate::steps::Order;
 use crate::store::Storage;
 use aegis::aegis128l::Key;

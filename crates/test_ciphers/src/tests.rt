@@ -1,6 +1,6 @@
 //! The tests, and the comparison that they share.
 
-mod calls;
+mod each_function;
 mod each_variant;
 mod examples;
 mod memory;

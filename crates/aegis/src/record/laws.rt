@@ -4,7 +4,7 @@
 ghost use Rattle.std.specs.Prelude.{◌≡◌, ◌<◌, ◌++◌, List, length, ℕ};
 ghost use Rattle.aegis_base.specs.Message.{erased_byte};
 ghost use Rattle.aegis.specs.RecordStream.{AreRecords, IsFault, IsOneFault, IsOneRecordStream, header, limit, max_context_bytes, record_overhead, records_length, sealed};
-ghost use Rattle.aegis.specs.Calls.{AreRecordsOfSomeVersion, Begun, Progress, start_of};
+ghost use Rattle.aegis.specs.RecordResults.{AreRecordsOfSomeVersion, Begun, Progress, start_of};
 ghost use Rattle.aegis.specs.declared.record.error.RecordError.TheVariants.{Trailing};
 ghost use Rattle.aegis.specs.declared.record.version.Version.{Version};
 

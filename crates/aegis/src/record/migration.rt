@@ -2,7 +2,7 @@
 
 ghost use Rattle.std.specs.Prelude.{◌≡◌, ◌≢◌, ◌≤◌, ◌⊎◌, IfErr, IfOk, List, length, ℕ};
 ghost use Rattle.aegis_base.specs.declared.error.TheConstants.{MAX_AEAD_BYTES};
-ghost use Rattle.aegis.specs.Calls.{IsRefused, MigratesTo};
+ghost use Rattle.aegis.specs.RecordResults.{IsRefused, MigratesTo};
 ghost use Rattle.aegis.specs.RecordStream.{AreRecords, IsFault};
 ghost use Rattle.aegis.specs.declared.record.version.Version.{Version};
 ghost use Rattle.aegis.specs.declared.record.version.Version.TheVariants.{Second};

@@ -1,7 +1,7 @@
 //! Opening a stream.
 
 ghost use Rattle.std.specs.Prelude.{◌≡◌, ◌≢◌, ◌≤◌, ◌⊎◌, ◌++◌, IfErr, IfNone, IfOk, IfSome, List, length, take, ℕ};
-ghost use Rattle.aegis.specs.Calls.{IsRecord, IsRefused, OpensTo, messages, sealing_of};
+ghost use Rattle.aegis.specs.RecordResults.{IsRecord, IsRefused, OpensTo, messages, sealing_of};
 ghost use Rattle.aegis.specs.RecordStream.{AreRecords, IsFault, IsFaultAt, header};
 
 use crate::aegis256::Key;

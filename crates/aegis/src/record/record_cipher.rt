@@ -4,7 +4,7 @@ ghost use Rattle.std.specs.Prelude.{◌≡◌, ◌≢◌, ◌-◌, ◌≤◌, �
 ghost use Rattle.std.specs.Int.{to_le_bytes, w32, w64};
 ghost use Rattle.aegis_base.specs.Chunks.{joined};
 ghost use Rattle.aegis_base.specs.Message.{erased_byte};
-ghost use Rattle.aegis.specs.Calls.{sealing_of};
+ghost use Rattle.aegis.specs.RecordResults.{sealing_of};
 ghost use Rattle.aegis.specs.RecordStream.{record_associated_data, before_bytes, header, limit, nonce};
 
 use crate::aegis256::{Aegis256, Error, Key, Nonce};

@@ -3,7 +3,7 @@ mod in_place;
 
 ghost use Rattle.std.specs.Prelude.{◌≡◌, ◌≢◌, ◌+◌, ◌-◌, ◌*◌, ◌<◌, ◌≤◌, ◌⊎◌, ◌++◌, [], Err, IfErr, IfOk, IsTrue, List, false, length, true, ℕ};
 ghost use Rattle.aegis_base.specs.declared.error.TheConstants.{MAX_AEAD_BYTES};
-ghost use Rattle.aegis.specs.Calls.{AcceptsNext, Begun, OpensNext, OpensRecordTo, RefusesNext, progress_at, record_of, start_of};
+ghost use Rattle.aegis.specs.RecordResults.{AcceptsNext, Begun, OpensNext, OpensRecordTo, RefusesNext, progress_at, record_of, start_of};
 ghost use Rattle.aegis.specs.RecordStream.{IsFault, first_position, parts, start_at};
 
 use crate::aegis256::Key;
@@ -48,7 +48,7 @@ pub struct RecordOpener<'a> {
 impl<'a> Model for RecordOpener<'a> {
     ghost use Rattle.std.specs.Prelude.{◌+◌, ◌*◌, ◌≤◌, length};
     ghost use Rattle.aegis_base.specs.declared.error.TheConstants.{MAX_AEAD_BYTES};
-    ghost use Rattle.aegis.specs.Calls.{Progress};
+    ghost use Rattle.aegis.specs.RecordResults.{Progress};
     ghost use Rattle.aegis.specs.RecordStream.{start_at};
     ghost use Rattle.aegis.specs.declared.record.record_cipher.TheConstants.{MAX_CONTEXT_BYTES};
 

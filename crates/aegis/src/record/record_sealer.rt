@@ -3,7 +3,7 @@ mod in_place;
 
 ghost use Rattle.std.specs.Prelude.{◌≡◌, ◌+◌, ◌-◌, ◌≤◌, ◌++◌, ◌∷◌, [], IfErr, IfOk, List, OnErr, OnOk, false, length, ℕ};
 ghost use Rattle.aegis_base.specs.declared.error.TheConstants.{MAX_AEAD_BYTES};
-ghost use Rattle.aegis.specs.Calls.{Begun, progress_after, progress_at, record_of, sealing_of, start_of};
+ghost use Rattle.aegis.specs.RecordResults.{Begun, progress_after, progress_at, record_of, sealing_of, start_of};
 ghost use Rattle.aegis.specs.RecordStream.{AreRecords, first_position, frame, header, limit};
 ghost use Rattle.aegis.specs.declared.record.version.Version.TheVariants.{Second};
 
@@ -87,7 +87,7 @@ pub struct RecordSealer<'a> {
 impl<'a> Model for RecordSealer<'a> {
     ghost use Rattle.std.specs.Prelude.{◌+◌, ◌*◌, ◌≤◌, false, length};
     ghost use Rattle.aegis_base.specs.declared.error.TheConstants.{MAX_AEAD_BYTES};
-    ghost use Rattle.aegis.specs.Calls.{Progress};
+    ghost use Rattle.aegis.specs.RecordResults.{Progress};
     ghost use Rattle.aegis.specs.declared.record.record_cipher.TheConstants.{MAX_CONTEXT_BYTES};
     ghost use Rattle.aegis.specs.declared.record.version.Version.TheVariants.{Second};
 

@@ -1,7 +1,7 @@
 //! The next record of a stream that C has the state of: it is sealed and opened in place, and nothing is allocated.
 
 ghost use Rattle.std.specs.Prelude.{◌≡◌, ◌+◌, ◌≤◌, IfSome, IsSome, List, length, ℕ};
-ghost use Rattle.aegis.specs.Calls.{message_in, record_of, with_message};
+ghost use Rattle.aegis.specs.RecordResults.{message_in, record_of, with_message};
 ghost use Rattle.aegis_c_calls.specs.Calls.{progress_of};
 
 use crate::record::state::{RecordState, position};

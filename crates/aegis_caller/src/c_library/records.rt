@@ -1,7 +1,7 @@
 //! A record stream: records are sealed and opened as the definition of streams says.
 
 ghost use Rattle.std.specs.Prelude.{◌≡◌, ◌∷◌, ◌++◌, [], IfOk, OnOk, OnSome};
-ghost use Rattle.aegis.specs.Calls.{message_in, progress_at, record_of};
+ghost use Rattle.aegis.specs.RecordResults.{message_in, progress_at, record_of};
 ghost use Rattle.aegis.specs.RecordStream.{AreRecords};
 ghost use Rattle.aegis.specs.declared.record.version.Version.TheVariants.{Second};
 

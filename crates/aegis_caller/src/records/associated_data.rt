@@ -10,7 +10,8 @@ pub fn of_the_second_record()
     ensures first { record_associated_data (record { version = First; number = 1; before = 3 }) 1 []
         ≡ 0x41 ∷ 0x47 ∷ 0x52 ∷ 0x31
         ∷ 1 ∷ 0 ∷ 0 ∷ 0 ∷ 0 ∷ 0 ∷ 0 ∷ 0 ∷ 1 ∷ [] }
-    ensures second { record_associated_data (record { version = Second; number = 1; before = 3 }) 1 []
+    ensures second { record_associated_data
+        (record { version = Second; number = 1; before = 3 }) 1 []
         ≡ 0x41 ∷ 0x47 ∷ 0x52 ∷ 0x32
         ∷ 1 ∷ 0 ∷ 0 ∷ 0 ∷ 0 ∷ 0 ∷ 0 ∷ 0 ∷ 3 ∷ 0 ∷ 0 ∷ 0 ∷ 0 ∷ 0 ∷ 0 ∷ 0 ∷ 1 ∷ [] }
 {}

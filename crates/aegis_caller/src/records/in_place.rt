@@ -2,7 +2,7 @@
 
 ghost use Rattle.std.specs.Prelude.{◌≡◌, ◌+◌, ◌≤◌, ◌++◌, ◌∷◌, [], IfErr, IfOk, List, OnErr, OnOk, false, length, ℕ};
 ghost use Rattle.std.specs.Bool.{OnFalse, OnTrue};
-ghost use Rattle.aegis.specs.Calls.{AreRecordsOfSomeVersion, Begun, IsRecordFault, message_in, record_of, start_of};
+ghost use Rattle.aegis.specs.RecordResults.{AreRecordsOfSomeVersion, Begun, IsRecordFault, message_in, record_of, start_of};
 
 use aegis::MAX_AEAD_BYTES;
 use aegis::record::{

@@ -2,7 +2,7 @@
 
 ghost use Rattle.std.specs.Prelude.{◌≡◌, ◌+◌, ◌*◌, ◌≤◌, ◌⊎◌, ◌++◌, ◌∷◌, [], IfErr, IfOk, IfSome, false, length};
 ghost use Rattle.std.specs.Bool.{OnFalse, OnTrue};
-ghost use Rattle.aegis.specs.Calls.{AreRecordsOfSomeVersion, IsRecordFault, progress_after, progress_at, record_of};
+ghost use Rattle.aegis.specs.RecordResults.{AreRecordsOfSomeVersion, IsRecordFault, progress_after, progress_at, record_of};
 ghost use Rattle.aegis.specs.RecordStream.{start_at};
 
 use aegis::MAX_AEAD_BYTES;

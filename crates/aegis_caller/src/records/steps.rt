@@ -1,7 +1,7 @@
 //! Record streams, a record at a time.
 
 ghost use Rattle.std.specs.Prelude.{◌≡◌, ◌+◌, ◌≤◌, ◌++◌, ◌∷◌, [], IfErr, IfOk, IfSome, List, OnErr, OnOk, length, ℕ};
-ghost use Rattle.aegis.specs.Calls.{AreRecordsOfSomeVersion, Begun, start_of};
+ghost use Rattle.aegis.specs.RecordResults.{AreRecordsOfSomeVersion, Begun, start_of};
 ghost use Rattle.aegis.specs.Private.{IsUnder};
 ghost use Rattle.aegis.specs.RecordStream.{AreRecords};
 ghost use Rattle.aegis.specs.declared.record.length.TheConstants.{HEADER_BYTES};

@@ -2,7 +2,7 @@
 
 ghost use Rattle.std.specs.Prelude.{◌≡◌, ◌<◌, ◌≤◌, IfOk, List, length, ℕ};
 ghost use Rattle.aegis_base.specs.Chunks.{texts};
-ghost use Rattle.aegis.specs.Calls.{IsRefused, OpensTo, messages};
+ghost use Rattle.aegis.specs.RecordResults.{IsRefused, OpensTo, messages};
 ghost use Rattle.aegis.specs.RecordStream.{AreRecords, AreWithin, IsFault, records_length};
 ghost use Rattle.aegis.specs.declared.record.version.Version.{Version};
 ghost use Rattle.aegis.specs.declared.record.version.Version.TheVariants.{Second};

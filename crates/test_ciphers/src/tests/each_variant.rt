@@ -17,7 +17,7 @@ use aegis_base::LaneState;
 use aegis_variants::{AnyCipher, VARIANTS, with_cipher, with_mac};
 use std::process::Abort;
 use std::test::Fail;
-use test_tools::calls::{ASSOCIATED_DATA, MESSAGE, keyed, stream_xor};
+use test_tools::inputs::{ASSOCIATED_DATA, MESSAGE, keyed, stream_xor};
 
 const TOO_SMALL: Result<(), Error> = Err(Error::OutputBufferTooSmall);
 

@@ -10,7 +10,7 @@ use aegis_variants::{AnyCipher, Keys};
 use hex::FromHex;
 use std::process::Abort;
 use std::test::Fail;
-use test_tools::calls::{
+use test_tools::inputs::{
     AEGIS256_CIPHERTEXT, AEGIS256_TAG, ASSOCIATED_DATA, LONG_KEY, MESSAGE, SHORT_KEY,
 };
 

@@ -8,7 +8,7 @@ use aegis_variants::{AnyCipher, VARIANTS};
 use std::alloc::Allocator;
 use std::process::Abort;
 use std::test::Fail;
-use test_tools::calls::{ASSOCIATED_DATA, keyed, stream_xor};
+use test_tools::inputs::{ASSOCIATED_DATA, keyed, stream_xor};
 use test_tools::memory::Rationed;
 
 // Asserts what a call returned: without any request `OutOfMemory`, even if the tag is wrong, and otherwise the same as

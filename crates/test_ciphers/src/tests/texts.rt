@@ -11,7 +11,7 @@ use aegis::record::RecordError;
 use std::fmt::Debug;
 use std::process::Abort;
 use std::test::Fail;
-use test_tools::calls::{LONG_KEY, LONG_NONCE, SHORT_KEY, SHORT_NONCE};
+use test_tools::inputs::{LONG_KEY, LONG_NONCE, SHORT_KEY, SHORT_NONCE};
 
 // Asserts that a text is the expected one.
 fn assert_text<R: Abort>(rt: &R, text: &str, expected: &str) {

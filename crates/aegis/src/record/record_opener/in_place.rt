@@ -2,7 +2,7 @@
 
 ghost use Rattle.std.specs.Prelude.{◌≡◌, ◌≢◌, ◌+◌, ◌≤◌, Err, IfErr, IfOk, IsTrue, length};
 ghost use Rattle.aegis_base.specs.declared.error.TheConstants.{MAX_AEAD_BYTES};
-ghost use Rattle.aegis.specs.Calls.{AcceptsNext, IsRecord, OpensInPlaceTo, OpensNext, RefusesInPlace, WritesMessage, message_at, message_of, rest_at, rest_of, sealing_of, start_of, with_erased, with_message};
+ghost use Rattle.aegis.specs.RecordResults.{AcceptsNext, IsRecord, OpensInPlaceTo, OpensNext, RefusesInPlace, WritesMessage, message_at, message_of, rest_at, rest_of, sealing_of, start_of, with_erased, with_message};
 ghost use Rattle.aegis.specs.RecordStream.{IsFaultAt};
 
 use crate::record::error::RecordError;

@@ -2,7 +2,7 @@
 
 ghost use Rattle.std.specs.Prelude.{◌≡◌, ◌+◌, ◌≤◌, ◌++◌, ◌∷◌, [], List, false, length, ℕ};
 ghost use Rattle.aegis_base.specs.declared.error.TheConstants.{MAX_AEAD_BYTES};
-ghost use Rattle.aegis.specs.Calls.{Begun, progress_after, message_in, record_of, sealing_of, start_of};
+ghost use Rattle.aegis.specs.RecordResults.{Begun, progress_after, message_in, record_of, sealing_of, start_of};
 ghost use Rattle.aegis.specs.RecordStream.{frame, limit};
 
 use crate::record::frame::TAG_BYTES;

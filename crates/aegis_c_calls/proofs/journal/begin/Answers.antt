@@ -1,7 +1,7 @@
 use Rattle.std.proofs.Common.{◌≡◌, ◌++◌, ◌∙◌, [], List, ap, arith, drop, refl, replicate, rules, ℕ}
 use Rattle.std.proofs.lemmas.List.{append-nil, drop_at}
 use Rattle.aegis_base.specs.Variant.{Aegis128L}
-use Rattle.aegis_engine.specs.Saved.{IsSaved}
+use Rattle.aegis_engine.specs.SavedContexts.{IsSaved}
 use Rattle.aegis_pages.specs.Commits.{journal_key}
 use Rattle.aegis_pages.specs.Layouts.{journal_beginning}
 use Rattle.aegis_c_calls.specs.PageCalls.{file_of}

@@ -1,6 +1,6 @@
 use Rattle.std.proofs.Common.{◌+◌, ◌∙◌, [], ap, length, rules, sym}
 use Rattle.std.proofs.lemmas.List.{append-nil}
-use Rattle.aegis.specs.Calls.{record_of}
+use Rattle.aegis.specs.RecordResults.{record_of}
 use Rattle.aegis.proofs.Stepwise.{head_len}
 use Rattle.aegis_c_calls.specs.Calls.{progress_of}
 use Rattle.aegis_c_calls.proofs.record.len.Goals as goal

@@ -1,5 +1,5 @@
 use Rattle.std.proofs.Common.{◌∙◌, ap, arith, refl, rules}
-use Rattle.aegis.specs.Calls.{message_in}
+use Rattle.aegis.specs.RecordResults.{message_in}
 use Rattle.aegis_c_calls.specs.Calls.{after_record}
 use Rattle.aegis_c_calls.proofs.Begun.{last_whole, next_begun}
 use Rattle.aegis_c_calls.proofs.record.open.Goals as goal

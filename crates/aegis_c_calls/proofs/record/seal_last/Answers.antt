@@ -1,5 +1,5 @@
 use Rattle.std.proofs.Common.{refl, rules}
-use Rattle.aegis.specs.Calls.{message_in}
+use Rattle.aegis.specs.RecordResults.{message_in}
 use Rattle.aegis_c_calls.proofs.Begun.{last_whole}
 use Rattle.aegis_c_calls.proofs.record.seal_last.Goals as goal
 

@@ -2,7 +2,7 @@ use Rattle.std.proofs.Common.{◌+◌, ◌≤◌, ◌++◌, ◌∙◌, ap, arith
 use Rattle.std.proofs.lemmas.List.{length-append, with_items_is}
 use Rattle.std.proofs.lemmas.Result.{err_from_is_err_and}
 use Rattle.std.specs.Io.KnownBytes.{Consumes}
-use Rattle.aegis.specs.Calls.{message_of}
+use Rattle.aegis.specs.RecordResults.{message_of}
 use Rattle.aegis_files.specs.Private.{ReadsNext}
 use Rattle.aegis_files.proofs.NextRecord.{message_kept, not_opened, nothing_left, reads_next}
 use Rattle.aegis_files.proofs.next.next_message.Goals as goal

@@ -1,7 +1,7 @@
 use Rattle.std.proofs.Common.{◌≡◌, ◌-◌, ◌∙◌, ap, arith, drop, length, refl, take}
 use Rattle.std.proofs.lemmas.List.{length-drop, length-take}
 use Rattle.std.proofs.lemmas.Result.{err_from_is_err_and}
-use Rattle.aegis.specs.Calls.{Progress, message_of, start_of}
+use Rattle.aegis.specs.RecordResults.{Progress, message_of, start_of}
 use Rattle.aegis_files.proofs.Ranges.{range_begin, range_end, range_more, stops_next, stops_write}
 use Rattle.aegis_files.proofs.range.open_range.Goals as goal
 

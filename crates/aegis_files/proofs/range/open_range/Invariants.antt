@@ -1,6 +1,6 @@
 use Rattle.std.proofs.Common.{◌-◌}
 use Rattle.aegis_base.specs.declared.error.TheConstants.{MAX_AEAD_BYTES}
-use Rattle.aegis.specs.Calls.{start_of}
+use Rattle.aegis.specs.RecordResults.{start_of}
 use Rattle.aegis_files.proofs.Ranges.{RangeMore}
 use Rattle.aegis_files.proofs.range.open_range.Given as goal
 

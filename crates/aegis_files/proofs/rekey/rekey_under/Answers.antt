@@ -1,6 +1,6 @@
 use Rattle.std.proofs.Common.{◌++◌, ◌∙◌, ap, arith, false, true}
 use Rattle.std.proofs.lemmas.Result.{err_from_is_err_and}
-use Rattle.aegis.specs.Calls.{Progress, progress_after, message_of, record_of, start_of}
+use Rattle.aegis.specs.RecordResults.{Progress, progress_after, message_of, record_of, start_of}
 use Rattle.aegis.specs.RecordStream.{header}
 use Rattle.aegis.specs.declared.record.version.Version.TheVariants.{Second}
 use Rattle.aegis_files.specs.declared.error.FileError.TheVariants.{Stream}

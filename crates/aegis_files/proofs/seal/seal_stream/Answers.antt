@@ -4,7 +4,7 @@ use Rattle.std.proofs.lemmas.List.{length-take}
 use Rattle.std.proofs.lemmas.Result.{err_from_is_err_and}
 use Rattle.std.specs.Io.KnownBytes.{Appends}
 use Rattle.std.specs.List.{length_refill}
-use Rattle.aegis.specs.Calls.{message_at, message_in, record_of}
+use Rattle.aegis.specs.RecordResults.{message_at, message_in, record_of}
 use Rattle.aegis.specs.RecordStream.{header}
 use Rattle.aegis.specs.declared.record.length.TheConstants.{RECORD_BYTES}
 use Rattle.aegis.specs.declared.record.version.Version.TheVariants.{Second}

@@ -1,6 +1,6 @@
 use Rattle.std.proofs.Common.{◌≡◌, ◌+◌, ◌-◌, length}
 use Rattle.aegis_base.specs.declared.error.TheConstants.{MAX_AEAD_BYTES}
-use Rattle.aegis.specs.Calls.{start_of}
+use Rattle.aegis.specs.RecordResults.{start_of}
 use Rattle.aegis.specs.declared.record.length.TheConstants.{RECORD_BYTES}
 use Rattle.aegis_files.specs.declared.seal.TheConstants.{PIECE_BYTES}
 use Rattle.aegis_files.proofs.Sealing.{SealsSome}

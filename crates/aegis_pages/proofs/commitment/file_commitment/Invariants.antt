@@ -1,6 +1,6 @@
 use Rattle.std.proofs.Common.{◌≡◌, ◌+◌, ◌*◌, ℕ, List, [], ◌++◌, IfSome, length, replicate}
 use Rattle.std.specs.Int.{to_le_bytes, w64}
-use Rattle.aegis_engine.specs.Saved.{IsSaved}
+use Rattle.aegis_engine.specs.SavedContexts.{IsSaved}
 use Rattle.aegis_pages.specs.Commits.{page_tags}
 use Rattle.aegis_pages.specs.Layouts.{plaintext_header, nonce_bytes}
 use Rattle.aegis_pages.proofs.commitment.file_commitment.Given as goal

@@ -1,5 +1,5 @@
 use Rattle.std.proofs.Common.{length}
-use Rattle.aegis.specs.Calls.{messages, progress_at}
+use Rattle.aegis.specs.RecordResults.{messages, progress_at}
 use Rattle.aegis.proofs.Stepwise.{SoFar}
 use Rattle.aegis.proofs.record.open.open_each.Given as goal
 

@@ -1,5 +1,5 @@
 use Rattle.std.proofs.Common.{arith}
-use Rattle.aegis.specs.Calls.{sealing_of}
+use Rattle.aegis.specs.RecordResults.{sealing_of}
 use Rattle.aegis.proofs.Reading.{parts_cut, record_sound}
 use Rattle.aegis.proofs.Sealed.{sealed-is}
 use Rattle.aegis.proofs.record.open.open_record.Goals as goal

@@ -1,5 +1,5 @@
 use Rattle.std.proofs.lemmas.Result.{IfOk-weaker}
-use Rattle.aegis.specs.Calls.{messages}
+use Rattle.aegis.specs.RecordResults.{messages}
 use Rattle.aegis.proofs.Sealed.{sealed-is}
 use Rattle.aegis.proofs.Frames.{opens_to, refused_by}
 use Rattle.aegis.proofs.record.open.open_records.Goals as goal

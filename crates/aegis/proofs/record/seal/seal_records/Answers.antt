@@ -1,6 +1,6 @@
 use Rattle.std.proofs.Common.{◌≡◌, ◌+◌, ◌-◌, ◌++◌, ◌∙◌, [], List, add-one, ap, arith, drop, length, refl, subst, take, ℕ}
 use Rattle.aegis_base.specs.Chunks.{texts}
-use Rattle.aegis.specs.Calls.{Begun, start_of}
+use Rattle.aegis.specs.RecordResults.{Begun, start_of}
 use Rattle.aegis.specs.RecordStream.{AreRecords, frames_length, header, records_length, sealed}
 use Rattle.aegis.specs.declared.record.version.Version.TheVariants.{Second}
 use Rattle.aegis.proofs.Lengths.{length-stream}

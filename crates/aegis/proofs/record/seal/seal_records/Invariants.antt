@@ -1,6 +1,6 @@
 use Rattle.std.proofs.Common.{◌≡◌, ◌+◌, drop, take}
 use Rattle.aegis_base.specs.Chunks.{texts}
-use Rattle.aegis.specs.Calls.{Begun, start_of}
+use Rattle.aegis.specs.RecordResults.{Begun, start_of}
 use Rattle.aegis.specs.Private.{IsUnder}
 use Rattle.aegis.specs.RecordStream.{frames_length, records_length}
 use Rattle.aegis.proofs.record.seal.seal_records.Given as goal

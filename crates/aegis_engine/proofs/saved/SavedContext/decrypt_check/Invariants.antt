@@ -1,7 +1,7 @@
 use Rattle.std.proofs.Common.{◌≡◌, ℕ, ◌+◌, ◌≤◌, List, ◌++◌, length}
 use Rattle.std.specs.Slice.Iter.{chunks_rest}
 use Rattle.aegis_base.specs.declared.error.TheConstants.{MAX_AEAD_BYTES}
-use Rattle.aegis_engine.specs.Saved.{HasChecked}
+use Rattle.aegis_engine.specs.SavedContexts.{HasChecked}
 use Rattle.aegis_engine.proofs.saved.SavedContext.decrypt_check.Given as goal
 
 abbrev pub invariant-loop-piece : goal.invariant-loop-piece

@@ -1,7 +1,7 @@
 use Rattle.std.proofs.Common.{◌∙◌, arith, inr, rules}
 use Rattle.std.proofs.lemmas.Bool.{true≢false}
 use Rattle.std.proofs.lemmas.Result.{err_from_is_err_and}
-use Rattle.aegis.specs.Calls.{sealing_of}
+use Rattle.aegis.specs.RecordResults.{sealing_of}
 use Rattle.aegis.proofs.Stepwise.{accepts_next, accepts_or, begun_fault_or, begun_open, cut_of, opens_next, record_long}
 use Rattle.aegis.proofs.record.record_opener.RecordOpener.open_next.Goals as goal
 

@@ -2,7 +2,7 @@ use Rattle.std.proofs.Common.{◌≡◌, ◌-◌, ◌∙◌, ap, arith, drop, le
 use Rattle.std.proofs.lemmas.Result.{err_from_is_err_and}
 use Rattle.std.specs.Prelude.{replicate, ℕ}
 use Rattle.aegis_engine.specs.declared.cipher.TheConstants.{ERASED}
-use Rattle.aegis.specs.Calls.{sealing_of, with_message}
+use Rattle.aegis.specs.RecordResults.{sealing_of, with_message}
 use Rattle.aegis.specs.RecordStream.{length_at}
 use Rattle.aegis.proofs.InPlace.{head_fits, left, sealed_end, sealed_is}
 use Rattle.aegis.proofs.Reading.{parts_cut, parts_known, record_sound}

@@ -1,6 +1,6 @@
 use Rattle.std.proofs.Common.{◌-◌, ◌∙◌, ap, arith, drop, length, sym}
 use Rattle.std.proofs.lemmas.List.{length-take}
-use Rattle.aegis.specs.Calls.{Progress}
+use Rattle.aegis.specs.RecordResults.{Progress}
 use Rattle.aegis.proofs.Stepwise.{begun_more, length-record}
 use Rattle.aegis.proofs.record.record_sealer.RecordSealer.seal_next_in_place.Goals as goal
 

@@ -11,7 +11,7 @@ use aegis_variants::VARIANTS;
 use hex::FromHex;
 use std::process::Abort;
 use std::test::Fail;
-use test_tools::calls::{
+use test_tools::inputs::{
     AEGIS256_CIPHERTEXT, AEGIS256_TAG, ASSOCIATED_DATA, LONG_KEY, LONG_NONCE, MESSAGE, SHORT_KEY,
     SHORT_NONCE, keyed,
 };

@@ -3,7 +3,7 @@ use Rattle.std.specs.Prelude.{◌≡◌, ℕ, ◌+◌, ◌/◌, List, ◌++◌}
 use Rattle.aegis_base.specs.Variant.{Variant, rate}
 use Rattle.aegis_base.specs.Message.{block_count, ciphertext}
 use Rattle.aegis_base.specs.Context.{Held, Stands, held_by}
-use Rattle.aegis_base.specs.Saved.{saved_lane}
+use Rattle.aegis_base.specs.SavedLanes.{saved_lane}
 use Rattle.aegis_engine.specs.declared.saved.SavedContext.{SavedContext}
 
 -- the mark of a context that was begun and has not ended: `aegis-ru` in ASCII
