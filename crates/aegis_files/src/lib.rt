@@ -21,4 +21,3 @@ pub use range::{ContentsRange, OpenedRange, open_range};
 pub use reading::fill;
 pub use rekey::rekey_stream;
 pub use seal::{PIECE_BYTES, seal_stream};
-pub use write::write_whole;

@@ -8,9 +8,9 @@ use crate::error::FileError;
 use std::io;
 use std::io::{ErrorKind, Write};
 
-/// Writes all bytes. An interrupted write is tried again. After an error a beginning of the bytes was written.
+// Writes all bytes. An interrupted write is tried again. After an error a beginning of the bytes was written.
 #[tactic(auto, using(std::proofs::lemmas::Grind::common_steps, crate::proofs::Pieces::write_laws))]
-pub fn write_whole<W: Write>(output: &mut W, bytes: &[u8]) -> io::Result<()>
+fn write_whole<W: Write>(output: &mut W, bytes: &[u8]) -> io::Result<()>
     ensures ok { OnOk result (Appends (W.contents output.old) (W.contents output.new) bytes.now) }
     ensures beginning { OnErr result ((n : ℕ)
         × Appends (W.contents output.old) (W.contents output.new) (take n bytes.now)) }
