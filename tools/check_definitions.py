@@ -137,6 +137,4 @@ def faults():
     yield from definition_faults(cites, wanted)
 
 
-found = [f"{PAGE}: {fault}" for fault in faults()]
-print("\n".join(found), end="\n" if found else "")
-sys.exit(bool(found))
+sys.exit("\n".join(f"{PAGE}: {fault}" for fault in faults()) or None)
