@@ -26,7 +26,8 @@ MESSAGES = (
     ("$TOOL info longer", 1, r"hunkravy: longer is damaged: bytes follow its last record"),
     # Parts.
     ("$TOOL open -k other --from 70000 sealed -", 1,
-     r"hunkravy: sealed: the key is wrong, or the file is damaged in or before record 1"),
+     r"hunkravy: sealed: the key is wrong, or the file is damaged in or before record 1 \(bytes 65536 to 131071 of the contents, "
+     r"if the length of the record is right; if anything follows, try --from 131072\)"),
     ("$TOOL open -k key --from 100000 flagged -", 1, r"hunkravy: flagged is damaged in or before the requested part"),
     ("$TOOL open -k key --from 199999 short -", 1, r"hunkravy: short is truncated in or before the requested part"),
     ("$TOOL open -k key --from 200001 sealed -", 1,
