@@ -53,6 +53,8 @@ class Words(Scene):
     def test_misuse(self):
         for words in "seal small", "frobnicate", "open -k key --from x sealed out", "open -k key --records 1..2 sealed out":
             self.tool(2, words)
+        for option in "from", "length":
+            self.tool(2, f"open -k key --{option} -1 sealed out", f"^error: invalid value '-1' for '--{option} <", "tip")
         self.shell(2, r"exec -a $'\377' $TOOL info sealed", "or the program's own name, is not UTF-8")
         os.mkdir("$(touch pasted)")
         hint = r"^hunkravy: \$\(touch pasted\) is a folder: give a file, or seal a folder with tar -c FOLDER \|"
