@@ -139,7 +139,7 @@ check-header: check-manual
 		echo 'left out: the layout of C, since clang-format 14 is not installed'; \
 	fi
 	if command -v shellcheck > /dev/null; then \
-		shellcheck -S warning $$(git ls-files '*.sh'); \
+		shellcheck -S warning $$(git ls-files '*.sh' dist/debian/tests ':!*control'); \
 	else \
 		echo 'left out: the shell programs by shellcheck, which is not installed'; \
 	fi

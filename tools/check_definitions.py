@@ -147,6 +147,4 @@ def faults():
     yield from name_faults()
 
 
-found = [f"{PAGE}: {fault}" for fault in faults()]
-print("\n".join(found), end="\n" if found else "")
-sys.exit(bool(found))
+sys.exit("\n".join(f"{PAGE}: {fault}" for fault in faults()) or None)

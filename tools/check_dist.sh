@@ -263,10 +263,17 @@ sed -n '/^```sh$/,/^```$/{ /^```/d; s|/usr/local|../local|; /^ldconfig$/d; p }' 
 use PIP_TARGET="$work/of-page" PIP_NO_INDEX=1 PIP_DISABLE_PIP_VERSION_CHECK=1 PIP_ROOT_USER_ACTION=ignore CARGO_NET_OFFLINE=true \
     bash -c 'cd page && while read -r command; do eval "$command" || exit 1; done < ../commands' > "$work/said" 2>&1 < /dev/null || { cat "$work/said"; fail 'a command of the page of the archive fails'; }
 use make --no-print-directory -C "$root" check-install "OUT=$out" "PREFIX=$work/local"
-for prefix in "$folder" "$system" "$work/local"; do
-    use bash -ec 'rm -f key sealed opened; "$0" keygen key; seq 100000 > text; "$0" seal -k key text sealed
-        "$0" check -k key sealed; "$0" open -k key sealed opened; cmp text opened' "$prefix/bin/hunkravy"
+
+# The tests of the Debian packages, in their system, as autopkgtest runs them. That of the tool serves for the archive too.
+# debian_test NAME PREFIX [SETTING..]
+debian_test() {
+    use AUTOPKGTEST_TMP="$(mktemp -d -p "$work")" PATH="$2/bin:/usr/bin:/bin" "${@:3}" "$root/dist/debian/tests/$1"
+}
+for test in $(sed -n 's/^Tests: //p' dist/debian/tests/control); do
+    debian_test "$test" "$system" ROOT="$work/system" LD_LIBRARY_PATH="$libraries" PKG_CONFIG_PATH="$libraries/pkgconfig" \
+        PKG_CONFIG_SYSROOT_DIR="$work/system"
 done
+for prefix in "$folder" "$work/local"; do debian_test tool "$prefix"; done
 
 # Nothing stays of a package that is removed.
 "${dpkg[@]}" -P hunkravy libhunkravy-dev libhunkravy0 libhunkravy0-dbgsym > "$work/said" 2>&1 || { cat "$work/said"; fail 'the packages cannot be removed'; }

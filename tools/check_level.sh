@@ -1,8 +1,8 @@
 #!/bin/bash
 # check_level.sh ARCHIVE SHARED LINES: whether each call of the library with both builds leads to the one for this processor's
 # level, as /proc/cpuinfo gives it, also on a processor of the lower level, where qemu is installed; that the lower build has
-# no instruction of the higher level; where functions begin; that a program has only the functions that it calls; and how the
-# shared library is linked. LINES is the folder of the stored lines.
+# no instruction of the higher level; where functions begin; and that a program has only the functions that it calls. LINES is
+# the folder of the stored lines.
 set -euo pipefail
 archive=$(realpath "$1") shared=$(realpath "$2") lines=$(realpath "$3")
 tests=$PWD/c/tests include=$PWD/c/include levels=$PWD/c/levels examples=$PWD/c/examples
@@ -121,8 +121,3 @@ if command -v qemu-x86_64 > /dev/null; then
 else
     echo 'left out: the library on a processor of level x86-64-v2, by qemu-x86_64, which is not installed'
 fi
-
-# What is bound at load time is not writable afterwards.
-readelf -d "$shared" | grep -q -w NOW || fail 'the shared library is not bound when it is loaded'
-readelf -lW "$shared" | grep -q GNU_RELRO || fail 'the shared library has no segment that is read-only after relocation'
-if readelf -lW "$shared" | grep GNU_STACK | grep -q E; then fail 'the stack of the shared library is executable'; fi

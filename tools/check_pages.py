@@ -276,6 +276,4 @@ def faults():
 
 
 if __name__ == "__main__":
-    found = faults()
-    print("\n".join(found), end="\n" if found else "")
-    sys.exit(bool(found))
+    sys.exit("\n".join(faults()) or None)

@@ -56,6 +56,4 @@ def lost():
                     print(f"{promise} | {name} | {clause} | {where[0]}")
 
 
-faults = [f"{PAGE}: {fault}" for fault in lost()]
-print("\n".join(faults), end="\n" if faults else "")
-sys.exit(bool(faults))
+sys.exit("\n".join(f"{PAGE}: {fault}" for fault in lost()) or None)

@@ -283,6 +283,4 @@ if __name__ == "__main__":
     command, *words = sys.argv[1:]
     if command in ("try", "try-tenth"):
         sys.exit(try_tenth() if command == "try-tenth" else try_listed(words))
-    faults = list(check())
-    print("\n".join(faults), end="\n" if faults else "")
-    sys.exit(bool(faults))
+    sys.exit("\n".join(check()) or None)

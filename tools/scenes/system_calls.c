@@ -5,8 +5,7 @@
 //   AT=N            the Nth of these calls fails, and "here" is written after its name
 //   KILLS=1         kills the program at that call in place of that
 //   NO_MEMORY=N     the Nth allocation fails, and "here" is written
-//   NAME=fails      each call of this name fails, as on a file system that does not have it
-//   LATE=NAME       each call of this name fails, with an error of its own
+//   NAME=ERROR      each call of this name fails with the error of this number
 //   BEFORE=NAME     each call of this name comes after the command RUNS
 //   BLIND=1         after RUNS each look at a file fails
 
@@ -44,7 +43,7 @@ static int is_turn(const char *variable, int *count)
 
 static int is_blind;
 
-// Returns whether a call has to fail, with this error unless the file system does not have it.
+// Returns whether a call has to fail, with this error unless the variable of its name has another.
 static int fails(const char *call, int error)
 {
     static int count;
@@ -56,19 +55,14 @@ static int fails(const char *call, int error)
             abort();
         is_blind = getenv("BLIND") != NULL;
     }
-    errno = EINVAL;
-    if (getenv(call) || (is_blind && strcmp(call, "statx") == 0))
-        return 1;
-    const char *late = getenv("LATE");
-    if (late && strcmp(late, call) == 0) {
-        errno = error;
-        return 1;
+    const char *own = getenv(call);
+    if (!own && !(is_blind && strcmp(call, "statx") == 0)) {
+        if (!is_turn("AT", &count))
+            return 0;
+        if (getenv("KILLS"))
+            kill(getpid(), SIGKILL);
     }
-    if (!is_turn("AT", &count))
-        return 0;
-    if (getenv("KILLS"))
-        kill(getpid(), SIGKILL);
-    errno = error;
+    errno = own ? atoi(own) : error;
     return 1;
 }
 

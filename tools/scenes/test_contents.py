@@ -46,7 +46,8 @@ class Contents(Scene):
             if record:
                 damaged = rf"^hunkravy: flipped is damaged: record {record} does not open {lost}$"
                 self.shell(1, "$TOOL open -k key --from 5 flipped > part", damaged)
-                wrong = f"^hunkravy: flipped: the key is wrong, or the file is damaged in or before record {record}$"
+                # If the next record is damaged too, this gives the next place to go on at.
+                wrong = f"^hunkravy: flipped: the key is wrong, or the file is damaged in or before record {record} {lost}$"
                 self.tool(1, f"open -k key --from {first} flipped", wrong)
 
     def sends(self, words, ends, contents, size):
@@ -116,7 +117,7 @@ class Contents(Scene):
         others = [f"other --from {first}" for first in ("0 --length 0", "10", "199999", "200000", "300000")]
         for part, output in itertools.product(past + others, ("out", "-")):
             too_far = "sealed has only 200000 bytes of contents: --from is past their end"
-            wrong = "sealed: the key is (probably )?wrong, or the file is damaged (at its start|in or before record [34])"
+            wrong = r"sealed: the key is (probably )?wrong, or the file is damaged (at its start|in or before record [34] \(.*200000\))"
             says = too_far if part in past else wrong
             self.tool(1, f"open -k {part} sealed {output}", rf"\Ahunkravy: {says}\n\Z")
             self.nothing_left("out")

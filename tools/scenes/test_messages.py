@@ -2,6 +2,7 @@
 
 import os
 import re
+from errno import EEXIST, EIO, ENOSPC, ENOSYS, EPERM
 
 from scene import ROOT, Scene, read, write
 
@@ -25,7 +26,8 @@ MESSAGES = (
     ("$TOOL info longer", 1, r"hunkravy: longer is damaged: bytes follow its last record"),
     # Parts.
     ("$TOOL open -k other --from 70000 sealed -", 1,
-     r"hunkravy: sealed: the key is wrong, or the file is damaged in or before record 1"),
+     r"hunkravy: sealed: the key is wrong, or the file is damaged in or before record 1 \(bytes 65536 to 131071 of the contents, "
+     r"if the length of the record is right; if anything follows, try --from 131072\)"),
     ("$TOOL open -k key --from 100000 flagged -", 1, r"hunkravy: flagged is damaged in or before the requested part"),
     ("$TOOL open -k key --from 199999 short -", 1, r"hunkravy: short is truncated in or before the requested part"),
     ("$TOOL open -k key --from 200001 sealed -", 1,
@@ -75,17 +77,19 @@ MESSAGES = (
     ("script -qec '$TOOL open -k key sealed' /dev/null", 3,
      r"hunkravy: the contents are not printable text: give a file as OUT, redirect with >, or give - to print\r"),
     # Calls of the system that fail.
-    ("CALLS getentropy=fails $TOOL keygen out", 3, r"hunkravy: the system returned no random bytes: .+"),
+    (f"CALLS getentropy={ENOSYS} $TOOL keygen out", 3, r"hunkravy: the system returned no random bytes: .+"),
     ("CALLS NO_MEMORY=100 $TOOL open -k key sealed out", 3, r"hunkravy: out of memory"),
-    ("CALLS link=fails $TOOL seal -k key small out", 0, r"hunkravy: out was renamed into place, since linking failed: .+"),
-    ("CALLS unlink=fails $TOOL seal -k key small out", 3,
+    (f"CALLS link={EPERM} $TOOL seal -k key small out", 0, r"hunkravy: out was renamed into place, since linking failed: .+"),
+    (f"CALLS link={ENOSPC} $TOOL seal -k key small out", 3, r"hunkravy: out cannot be written: No space left .+"),
+    (f"CALLS rename={EEXIST} $TOOL seal --force -k key small out", 3, r"hunkravy: out cannot be written: File exists .+"),
+    (f"CALLS unlink={EPERM} $TOOL seal -k key small out", 3,
      r"hunkravy: \./\.out\.hunkravy-[0-9a-f]{16} was not removed: delete it if it is there, since it may hold plaintext or a key\n"
      r"hunkravy: out is complete, but \.OUT\.hunkravy-\* beside it remains: delete that name"),
     ("CALLS BEFORE=fsync_file RUNS='rm .out*' $TOOL seal -k key small out", 3,
      r"hunkravy: out cannot be written: its folder, or its temporary file \.OUT\.hunkravy-\*, was renamed, removed or mounted over"),
-    ("CALLS BLIND=1 BEFORE=rename RUNS='mv .out* out' rename=fails $TOOL seal -q --force -k key small out", 3,
+    (f"CALLS BLIND=1 BEFORE=rename RUNS='mv .out* out' rename={EIO} $TOOL seal -q --force -k key small out", 3,
      r"hunkravy: \./\.out\.\S+ was not removed: .+\nhunkravy: cannot tell whether out was written, so check it: .+"),
-    ("CALLS LATE=fsync_folder $TOOL seal -k key small out", 3,
+    (f"CALLS fsync_folder={ENOSPC} $TOOL seal -k key small out", 3,
      r"hunkravy: out is complete, but a power loss may undo it, since its folder cannot be synced: No space left .+"),
 )
 # These need an input of 2^61 bytes, and a command line that is not understood and not rejected. The last is not printed.

@@ -28,7 +28,9 @@ class Start(Scene):
             self.left_out("the start on older processors, since qemu-x86_64 is not installed")
         for processor, level in ("Haswell", 1), ("Nehalem", 0), *((f"Haswell,-{name}", 0) for name in FEATURES):
             self.tool(0, ["qemu-x86_64", "-cpu", processor, TOOL, "--version"], built_for(LEVELS[level]))
-        self.tool(127, ["qemu-x86_64", "-cpu", "Conroe", TOOL, "--version"], "^hunkravy: this processor is too old")
+        older = ["qemu-x86_64", "-cpu", "Conroe", TOOL]
+        self.tool(127, [*older, "seal", "-k", "key", "small", "out"], "^hunkravy: this processor is too old")
+        self.nothing_left("out")
 
     # A copy, by a name that a program for a shell would take for an option, and through links.
     def test_names(self):

@@ -1,6 +1,7 @@
 """The calls of the system that a run makes, each failing or killed in turn, and what happens between two of them, by the
 library of system_calls.c."""
 
+import errno
 import os
 import pathlib
 import re
@@ -61,20 +62,31 @@ class Calls(Scene):
         for settings, words, order in (
             ("", "keygen out", "fsync_file link unlink fsync_folder"),
             ("", "seal -k key small out", "fsync_file link unlink fsync_folder"),
-            ("link=fails", "seal --quiet -k key small out", "fsync_file link rename fsync_folder"),
+            (f"link={errno.EPERM}", "seal --quiet -k key small out", "fsync_file link rename fsync_folder"),
             ("", "seal --force -k key small out", "fsync_file rename fsync_folder"),
-            ("fsync_folder=fails", "seal --force -k key small out", "fsync_file rename fsync_folder"),
+            (f"fsync_folder={errno.EINVAL}", "seal --force -k key small out", "fsync_file rename fsync_folder"),
         ):
             noted = self.with_calls(0, settings, words, lacks=".")
             self.assertEqual([call for call in noted if re.match("link|rename|unlink|fsync", call)], order.split(), words)
             os.remove("out")
 
+    # Where there are no hard links the file is renamed. After any other error nothing has the output's name, since another run
+    # may have no such error.
+    def test_links_that_fail(self):
+        for error in errno.EPERM, errno.EMLINK, errno.ENOSYS, errno.EOPNOTSUPP:
+            self.with_calls(0, f"link={error}", "keygen out", "^hunkravy: out was renamed into place, since linking failed: ")
+            os.remove("out")
+        for error in errno.ENOSPC, errno.EDQUOT, errno.EACCES, errno.EROFS, errno.EIO, errno.ENOMEM, errno.EINVAL, errno.EXDEV:
+            noted = self.with_calls(3, f"link={error}", "keygen out", "^hunkravy: out cannot be written: ", "renamed|exists")
+            self.assertNotIn("rename", noted)
+            self.nothing_left("out")
+
     # A call that did its work and returns an error, as on a network's file system.
     def test_names_that_were_given_with_an_error(self):
         for settings, words in (
-            ("BEFORE=link RUNS='ln .out* out' link=fails", "seal -k key small out"),
+            (f"BEFORE=link RUNS='ln .out* out' link={errno.EIO}", "seal -k key small out"),
             ("BEFORE=unlink RUNS='rm .out*'", "seal -k key small out"),
-            ("BEFORE=rename RUNS='mv .out* out' rename=fails", "seal --force -k key small out"),
+            (f"BEFORE=rename RUNS='mv .out* out' rename={errno.EIO}", "seal --force -k key small out"),
         ):
             self.with_calls(0, settings, words, lacks=".")
             self.opens("out", read("small"))
@@ -87,7 +99,7 @@ class Calls(Scene):
             ("link", "ln .out* out", "seal -k key small out", 1),
             ("rename", "mv .out* out", "seal --force -k key small out", 0),
         ):
-            settings = f"BLIND=1 BEFORE={call} RUNS='{runs}' {call}=fails"
+            settings = f"BLIND=1 BEFORE={call} RUNS='{runs}' {call}={errno.EIO}"
             self.with_calls(3, settings, words, ("cannot tell whether out was written, so check it", STAYS), MOVED)
             self.opens("out", read("small"))
             self.assertEqual(len(parts()), count)
@@ -96,8 +108,8 @@ class Calls(Scene):
 
     # As in a folder that was made read-only meanwhile.
     def test_names_that_cannot_be_given(self):
-        for _ in range(2):
-            fails = "link=fails rename=fails unlink=fails"
+        for error in errno.EACCES, errno.EPERM:
+            fails = f"link={error} rename={error} unlink={error}"
             self.with_calls(3, fails, "seal -k key small out", ("out cannot be written", STAYS))
         self.assertFalse(os.path.exists("out"))
         digits = [re.fullmatch(r"\.out\.hunkravy-([0-9a-f]{16})", name)[1] for name in parts()]
@@ -110,7 +122,7 @@ class Calls(Scene):
         created = "BEFORE=link RUNS=': >> out'"
         self.with_calls(3, created, "keygen out", "out exists: keygen never replaces a file")
         os.remove("out")
-        for _ in self.each(3, f"link=fails {created} AT", "seal -k key small out"):
+        for _ in self.each(3, f"link={errno.EPERM} {created} AT", "seal -k key small out"):
             self.assertEqual(len(parts()), self.said.count(STAYS))
             self.assertTrue(not os.path.exists("out") or read("out") == b"")
             self.prepare("seal")
@@ -159,7 +171,7 @@ class Calls(Scene):
     # If the caller has closed standard error, the next file that is opened could get its descriptor, and a message.
     def test_no_message_in_an_output(self):
         for closed in "sealed out 2>&-", "sealed out >&- 2>&-", "sealed out <sealed >&- 2>&-", "- out <sealed 2>&-":
-            self.with_calls(0, "link=fails", f"open -k key {closed}")
+            self.with_calls(0, f"link={errno.EPERM}", f"open -k key {closed}")
             self.is_same("out", "text")
             os.remove("out")
 
@@ -212,7 +224,8 @@ class Calls(Scene):
             self.opens("out", read("text"), key="other" if command.startswith("rekey") else "key")
         return True
 
-    # A name that cannot be removed stays, and is said to. A look that fails may leave out progress or a warning.
+    # A name that cannot be removed stays, and is said to. A run may succeed only after a look that failed, without progress or
+    # a warning.
     def check_failed(self, before, after, is_complete):
         stays = re.findall("^hunkravy: (.*) was not removed", self.said, re.M)
         self.assertEqual([os.path.normpath(name) for name in stays], parts())
@@ -220,9 +233,8 @@ class Calls(Scene):
             self.assertRegex(self.said, r"out is complete, but \.OUT\.hunkravy-\* beside it remains")
             self.assertIn("fsync_folder", after)
         self.assertEqual(is_complete, self.status == 0 or "out is complete, but" in self.said)
-        if self.status == 0 and before[-1] != "statx":
-            self.assertEqual(before[-1], "link")
-            self.assertRegex(self.said, "out was renamed into place")
+        if self.status == 0:
+            self.assertEqual(before[-1], "statx")
 
     def test_each_call_fails_beside_the_key_and_the_input(self):
         for name in "key", "sealed":

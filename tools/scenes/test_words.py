@@ -51,10 +51,10 @@ class Words(Scene):
             self.assertEqual(self.said, found, words)
 
     def test_misuse(self):
-        for words in "seal small", "frobnicate", "open -k key --from x sealed out", "open -k key --from 1 - out", \
-                "open -k key --records 1..2 sealed out", "seal -k - - out":
+        for words in "seal small", "frobnicate", "open -k key --from x sealed out", "open -k key --records 1..2 sealed out":
             self.tool(2, words)
-        self.shell(2, r"$TOOL seal -k key $'small\377' out", "an argument, or")
+        for option in "from", "length":
+            self.tool(2, f"open -k key --{option} -1 sealed out", f"^error: invalid value '-1' for '--{option} <", "tip")
         self.shell(2, r"exec -a $'\377' $TOOL info sealed", "or the program's own name, is not UTF-8")
         os.mkdir("$(touch pasted)")
         hint = r"^hunkravy: \$\(touch pasted\) is a folder: give a file, or seal a folder with tar -c FOLDER \|"
@@ -124,12 +124,6 @@ class Words(Scene):
         self.shell(3, "$TOOL seal -k key - closed <&-")
         self.shell(3, "$TOOL seal -k key /dev/zero 2> said | head -c 1000 > started; exit ${PIPESTATUS[0]}")
         self.nothing_left("closed")
-
-    def test_older_processor(self):
-        if not shutil.which("qemu-x86_64"):
-            self.left_out("an older processor, since qemu-x86_64 is not installed")
-        self.tool(127, ["qemu-x86_64", "-cpu", "core2duo", TOOL, "seal", "-k", "key", "small", "out"])
-        self.nothing_left("out")
 
     # ---- Terminals
 

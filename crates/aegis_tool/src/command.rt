@@ -94,6 +94,7 @@ fn new_key_argument<'a>(alloc: Global) -> Arg<'a> {
 fn from_argument<'a>(alloc: Global) -> Arg<'a> {
     Arg::new(alloc, "BYTE")
         .long("from")
+        .allow_negative_numbers(true)
         .value_parser(value_parser!(u64))
         .help("Start at this byte of the contents (counted from 0)")
 }
@@ -101,6 +102,7 @@ fn from_argument<'a>(alloc: Global) -> Arg<'a> {
 fn length_argument<'a>(alloc: Global) -> Arg<'a> {
     Arg::new(alloc, "N")
         .long("length")
+        .allow_negative_numbers(true)
         .value_parser(value_parser!(u64))
         .help("Write at most N bytes")
 }

@@ -27,8 +27,8 @@ pub enum Failure<'a> {
     Trailing(Name<'a>),
     #[error("{0} is longer than a sealed file can be")]
     TooLong(Name<'a>),
-    #[error("{0}: the key is wrong, or the file is damaged in or before record {1}")]
-    DamagedPart(Name<'a>, u64),
+    #[error("{0}: the key is wrong, or the file is damaged in or before record {1}{2}")]
+    DamagedPart(Name<'a>, u64, Lost),
     #[error("{0} is damaged in or before the requested part")]
     NoPart(Name<'a>),
     #[error("{0} is truncated in or before the requested part")]
@@ -172,7 +172,7 @@ impl<'a> Failure<'a> {
             PartError::PastBytes(bytes) => Failure::PastBytes(name, bytes),
             PartError::File(FileError::Stream(fault)) => match fault {
                 RecordError::Damaged(number) if 0 < number && number == seen.start.number => {
-                    Failure::DamagedPart(name, number)
+                    Failure::DamagedPart(name, number, seen.lost(number))
                 }
                 RecordError::Flag | RecordError::TooLong => Failure::NoPart(name),
                 RecordError::Truncated => Failure::TruncatedPart(name),

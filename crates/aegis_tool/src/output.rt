@@ -1,10 +1,11 @@
 //! Where a command writes. A file gets its name only once it is complete.
 //!
 //! A file OUT is written under a name of its own beside it, `.OUT.hunkravy-` and 16 random hexadecimal digits. It is
-//! created there, synced, and linked to the name OUT, which fails if a file has that name by then; with `--force` it is
-//! renamed instead. Then the folder is synced. So OUT is the complete file, or as it was before. No file of another
-//! program is opened, removed or replaced. Exception: OUT with `--force`. If OUT is a link, all this happens beside the
-//! file that it leads to. A device or a pipe is written directly.
+//! created there, synced, and linked to the name OUT, which fails if a file has that name by then; with `--force` it
+//! is renamed instead. Then the folder is synced. So OUT is the complete file, or as it was before. No file of
+//! another program is opened, removed or replaced. Exceptions: OUT with `--force`; and on a file system without hard
+//! links, where the file is renamed after a look, an OUT that another program creates between the two. If OUT is a
+//! link, all this happens beside the file that it leads to. A device or a pipe is written directly.
 //!
 //! No output that the program opens has one of the three standard descriptors, which are free if the caller has closed
 //! them: a message would be written into it. `try_clone` takes the lowest descriptor after those.
@@ -23,6 +24,9 @@ use std::{fs, io};
 
 // The mode of new files: only the owner can read and write them.
 const OWNER_ONLY: u32 = 0o600;
+
+// The number of the error of a link where the file system has none. Its kind is also that of a denied permission.
+const EPERM: i32 = 1;
 
 // The bit of a mode that a name of a descriptor in `/proc` has if it may be written.
 const OWNER_WRITES: u32 = 0o200;
@@ -359,6 +363,16 @@ fn sync_folder(rt: &HostRuntime, folder: &str) -> io::Result<()> {
     }
 }
 
+// Whether an error of a link means that the file system has no hard links. Another error, such as a full disk, may be
+// that of only one of two runs. A new file has one name, so a file system that returns EMLINK allows no second one.
+fn means_no_links(error: &io::Error) -> bool {
+    error.raw_os_error() == Some(EPERM)
+        || matches!(
+            error.kind(),
+            ErrorKind::Unsupported | ErrorKind::TooManyLinks
+        )
+}
+
 /// A file that is being written, and has not yet the name of its output.
 #[derive(Drop)]
 pub struct Part<'a> {
@@ -470,12 +484,12 @@ impl<'a> Part<'a> {
         };
         match self.is_at(rt, self.target.as_str()) {
             Ok(true) => Ok(true),
-            Ok(false) if error.kind() == ErrorKind::AlreadyExists => Err(self.failed(error)),
-            Ok(false) => {
+            Ok(false) if means_no_links(&error) => {
                 self.rename_unless_there(rt)?;
                 self.say_renamed(rt, &error);
                 Ok(false)
             }
+            Ok(false) => Err(self.failed(error)),
             Err(_) => Err(Failure::Unseen(self.output, error)),
         }
     }

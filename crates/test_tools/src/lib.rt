@@ -1,5 +1,5 @@
-//! What the tests share: keys, nonces and a keystream of any variant, an allocator that refuses requests, readers and writers
-//! that fail, and a worked example.
+//! What the tests share: keys, nonces and a keystream of any variant, an allocator that refuses requests, readers and
+//! writers that fail, and a worked example.
 #![tactic(auto)]
 
 pub mod ends;
