@@ -14,7 +14,8 @@ ghost use Rattle.aegis_base.specs.Variant.{key_length};
 ghost use Rattle.aegis_engine.specs.Pass.{absorbed, given, ciphertext_in};
 
 use crate::pass::{
-    Pass, RateBlock, ZEROS, absorb_part, absorb_whole, copy_part, fill_part, pass_part, pass_whole,
+    Pass, RateBlock, ZEROS, absorb_block, absorb_part, absorb_whole, copy_part, fill_part,
+    pass_part, pass_whole,
 };
 use crate::tag::{lanes_tag, same_bytes};
 use aegis_base::{LaneState, MAX_AEAD_BYTES};
@@ -286,7 +287,7 @@ impl<S: LaneState> Context<S> {
         if open > 0 {
             let mut last = ZEROS;
             copy_part(&mut last, 0, &self.block, 0, open);
-            state.absorb(&last, 0);
+            absorb_block(&mut state, &last);
         }
         state
     }

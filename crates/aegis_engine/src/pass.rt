@@ -66,12 +66,25 @@ pub fn fill_part(buffer: &mut [u8], source: Option<&[u8]>, at: usize, count: usi
 #[inline(always)]
 fn copied<S: LaneState>(bytes: &[u8], at: usize) -> RateBlock
     requires { at + S.RATE ≤ length bytes.now }
-    ensures { (j : ℕ) → j < S.VARIANT.lanes
-        → share_at S.VARIANT j result 0 ≡ share_at S.VARIANT j bytes.now at }
+    ensures { (k : ℕ) → k < S.RATE → slice_index result k ≡ slice_index bytes.now (at + k) }
 {
     let mut block = ZEROS;
     copy_part(&mut block, 0, bytes, at, S::RATE);
     block
+}
+
+// A copy of the rate block of `source` that begins at place `at`, or if there is no source, of the buffer's.
+#[inline(always)]
+fn copied_given<S: LaneState>(source: Option<&[u8]>, buffer: &[u8], at: usize) -> RateBlock
+    requires within { at + S.RATE ≤ length buffer.now }
+    requires lengths { IfSome source (λ s. length s.now ≡ length buffer.now) }
+    ensures { (k : ℕ) → k < S.RATE
+        → slice_index result k ≡ slice_index (given source.entry buffer.now) (at + k) }
+{
+    match source {
+        Some(source) => copied::<S>(source, at),
+        None => copied::<S>(buffer, at),
+    }
 }
 
 // Xors the rate block of a buffer that begins at place `at` with the lanes' keystream. Here each byte is stated, and in
@@ -106,6 +119,18 @@ fn xor_part<S: LaneState>(state: &S, total: u64, buffer: &mut [u8], at: usize, c
     copy_part(&mut part, place, buffer, at, count);
     xor_block(*state, &mut part, 0);
     copy_part(buffer, at, &part, place, count);
+}
+
+/// Updates the lanes by a rate block. Inlined after a loop over rate blocks, it would take registers from that loop.
+#[inline(never)]
+pub fn absorb_block<S: LaneState>(state: &mut S, block: &RateBlock)
+    requires { S.updates state.old + 1 < 2 ^ 64 }
+    ensures lanes { (j : ℕ) → j < S.VARIANT.lanes
+        → S.lane state.new j
+        ≡ update S.VARIANT.family (S.lane state.old j) (share_at S.VARIANT j block.now 0) }
+    ensures updates { S.updates state.new ≡ S.updates state.old + 1 }
+{
+    state.absorb(block, 0);
 }
 
 /// Takes `count` more bytes of one rate block, beginning at place `at` of `bytes`, into the open block. If they fill
@@ -193,38 +218,44 @@ fn absorb_zeros<S: LaneState>(state: &mut S)
     state.absorb(&ZEROS, 0);
 }
 
-// Updates the lanes by one rate block of a buffer: it is xored with the keystream of `before`, which are the lanes
-// before that, and the lanes take in the bytes that `pass` selects.
+// Updates the lanes by one rate block of a buffer: it is copied from `source` if there is one, and xored with the
+// keystream of `before`, which are the lanes before that, and the lanes take in the bytes that `pass` selects.
+//
+// What is read after the block is in the buffer are locals. So LLVM needs not know that a source lies apart from the
+// buffer: the block stays in registers, and another buffer costs no more than the block's own place. The rows are no
+// longer needed after their update.
 #[inline(always)]
-fn pass_block<S: LaneState>(before: S, state: &mut S, pass: Pass, buffer: &mut [u8], at: usize)
+fn pass_block<S: LaneState>(
+    before: S,
+    state: &mut S,
+    pass: Pass,
+    source: Option<&[u8]>,
+    buffer: &mut [u8],
+    at: usize,
+)
     requires within { at + S.RATE ≤ length buffer.old }
+    requires lengths { IfSome source (λ s. length s.now ≡ length buffer.old) }
     requires countable { S.updates state.old + 1 < 2 ^ 64 }
     ensures written { (k : ℕ) → k < S.RATE
         → slice_index buffer.new (at + k)
-        ≡ bit_xor (slice_index buffer.old (at + k)) (keystream_byte S.VARIANT (S.lane before) k) }
+        ≡ bit_xor (slice_index (given source.entry buffer.old) (at + k))
+        (keystream_byte S.VARIANT (S.lane before) k) }
     ensures below { IsSameBefore at buffer.old buffer.new }
     ensures above { IsSameFrom (at + S.RATE) buffer.old buffer.new }
     ensures lanes { (j : ℕ) → j < S.VARIANT.lanes
         → S.lane state.new j
         ≡ update S.VARIANT.family (S.lane state.old j)
-        (share_at S.VARIANT j (absorbed pass buffer.old buffer.new) at) }
+        (share_at S.VARIANT j (absorbed pass (given source.entry buffer.old) buffer.new) at) }
     ensures updates { S.updates state.new ≡ S.updates state.old + 1 }
 {
+    let block = copied_given::<S>(source, buffer, at);
+    let mut passed = block;
+    xor_block(before, &mut passed, 0);
+    copy_part(buffer, at, &passed, 0, S::RATE);
     match pass {
-        // The block is copied, so that the rows are no longer needed after their update.
-        Pass::Seal => {
-            let plain = copied::<S>(buffer, at);
-            xor_block(before, buffer, at);
-            state.absorb(&plain, 0);
-        }
-        Pass::Open => {
-            xor_block(before, buffer, at);
-            state.absorb(buffer, at);
-        }
-        Pass::Keystream => {
-            xor_block(before, buffer, at);
-            absorb_zeros(state);
-        }
+        Pass::Seal => state.absorb(&block, 0),
+        Pass::Open => state.absorb(&passed, 0),
+        Pass::Keystream => absorb_zeros(state),
     }
 }
 
@@ -278,13 +309,12 @@ pub fn pass_whole<S: LaneState>(
     let rate = S::RATE;
     let mut state = state;
     for i in 0..count {
-        fill_part(buffer, source, at + i * rate, rate);
         if S::FIT_REGISTERS {
             let mut next = state;
-            pass_block(state, &mut next, pass, buffer, at + i * rate);
+            pass_block(state, &mut next, pass, source, buffer, at + i * rate);
             state = next;
         } else {
-            pass_block(state, &mut state, pass, buffer, at + i * rate);
+            pass_block(state, &mut state, pass, source, buffer, at + i * rate);
         }
     }
     state

@@ -30,16 +30,15 @@ loop-i-preserved g c =
     let L = g.S.LaneState in let r : ℕ = c.RATE-rate.result in let i : ℕ = c.loop-i.i in let inv = c.loop-i.invariant in
     let at : ℕ = c.args.at in let here : ℕ = at + i * r in
     let old : List ℕ = c.args.buffer.now in let now : List ℕ = c.loop-i.buffer in
-    let filled : List ℕ = c.fill_part.new.buffer in let new : List ℕ = c.if-FIT_REGISTERS.buffer in
-    let source : List ℕ = given c.args.source old in
+    let new : List ℕ = c.if-FIT_REGISTERS.buffer in let source : List ℕ = given c.args.source old in let next : List ℕ = given c.args.source now in
     let turn : record {
       written : (k : ℕ) → k < L.RATE
-          → slice_index new (here + k) ≡ bit_xor (slice_index filled (here + k)) (keystream_byte L.VARIANT (L.lane c.loop-i.state) k);
-      below : IsSameBefore here filled new;
-      above : IsSameFrom (here + L.RATE) filled new;
+          → slice_index new (here + k) ≡ bit_xor (slice_index next (here + k)) (keystream_byte L.VARIANT (L.lane c.loop-i.state) k);
+      below : IsSameBefore here now new;
+      above : IsSameFrom (here + L.RATE) now new;
       lanes : (j : ℕ) → j < L.VARIANT.lanes
           → L.lane c.if-FIT_REGISTERS.state j
-          ≡ update L.VARIANT.family (L.lane c.loop-i.state j) (share_at L.VARIANT j (absorbed c.args.pass filled new) here);
+          ≡ update L.VARIANT.family (L.lane c.loop-i.state j) (share_at L.VARIANT j (absorbed c.args.pass next new) here);
       updates : L.updates c.if-FIT_REGISTERS.state ≡ L.updates c.loop-i.state + 1;
     } = elim c.if-FIT_REGISTERS.branch [
       | then-FIT_REGISTERS w ↦ rw (w.state-is, w.buffer-is) w.pass_block.ensures
@@ -51,20 +50,20 @@ loop-i-preserved g c =
       passed = λ block ad_bytes total unopened.
           let none : (total + i * r) % r ≡ 0 =
           block-start total i r (rw rate_is (rate-positive L.VARIANT g.met.S.LaneState.one_two_or_four)) (unopened (omega arith)) in
-          let next = block-passed L.VARIANT (L.lane c.loop-i.state) (L.lane c.if-FIT_REGISTERS.state) (L.updates c.loop-i.state) (L.updates c.if-FIT_REGISTERS.state)
-          block ad_bytes (total + i * r) c.args.pass filled new here r g.met.S.LaneState.one_two_or_four rate_is none turn.updates
+          let passed = block-passed L.VARIANT (L.lane c.loop-i.state) (L.lane c.if-FIT_REGISTERS.state) (L.updates c.loop-i.state) (L.updates c.if-FIT_REGISTERS.state)
+          block ad_bytes (total + i * r) c.args.pass next new here r g.met.S.LaneState.one_two_or_four rate_is none turn.updates
           (λ k low. turn.written k (rw (← c.RATE-rate.ensures) low)) turn.lanes in
-          let kept : bytes_at now at (i * r) ≡ bytes_at new at (i * r) = bytes_at-same now new at at (i * r) (λ k low. sym (turn.below (at + k) (omega arith) ∙ c.fill_part.ensures.below (at + k) (omega arith))) in
-          let fresh : bytes_at filled here r ≡ bytes_at source here r =
-          bytes_at-same filled source here here r (λ k low. c.fill_part.ensures.written k low ∙ given-same c.args.source now old (here + k) (inv.above (here + k) (omega arith))) in
+          let kept : bytes_at now at (i * r) ≡ bytes_at new at (i * r) = bytes_at-same now new at at (i * r) (λ k low. sym (turn.below (at + k) (omega arith))) in
+          let fresh : bytes_at next here r ≡ bytes_at source here r =
+          bytes_at-same next source here here r (λ k low. given-same c.args.source now old (here + k) (inv.above (here + k) (omega arith))) in
           let size : length (bytes_at new at (i * r)) ≡ length (bytes_at source at (i * r)) = length-bytes_at new at (i * r) ∙ sym (length-bytes_at source at (i * r)) in
           let more : (i + 1) * r ≡ i * r + r = omega arith in
           let end : total + i * r + r ≡ total + (i * r + r) = omega arith in
           rw (more, ← bytes_at-append source at (i * r) r, ← bytes_at-append new at (i * r) r)
-          (passed-more L.VARIANT _ _ _ c.args.pass (bytes_at source at (i * r)) _ (bytes_at new at (i * r)) _ size (rw kept at (inv.passed block ad_bytes total unopened)) (rw (fresh, end) at next));
-      below = λ q low. turn.below q (omega arith) ∙ c.fill_part.ensures.below q (omega arith) ∙ inv.below q low;
+          (passed-more L.VARIANT _ _ _ c.args.pass (bytes_at source at (i * r)) _ (bytes_at new at (i * r)) _ size (rw kept at (inv.passed block ad_bytes total unopened)) (rw (fresh, end) at passed));
+      below = λ q low. turn.below q (omega arith) ∙ inv.below q low;
       above = λ q high.
-          turn.above q (rw (← c.RATE-rate.ensures) (omega arith)) ∙ c.fill_part.ensures.above q (omega arith) ∙ inv.above q (omega arith);
+          turn.above q (rw (← c.RATE-rate.ensures) (omega arith)) ∙ inv.above q (omega arith);
     }
 
 pub returns-clause-passed : goal.returns-clause-passed

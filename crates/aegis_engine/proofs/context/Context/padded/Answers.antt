@@ -16,7 +16,7 @@ returns-then-open-gt0-clause-lanes g c key nonce ad m stands j inside =
     let place : s.message_bytes % c.RATE.result ≡ length m % rate L.VARIANT =
     ap (λ (r : ℕ). s.message_bytes % r) (c.RATE.ensures ∙ g.met.S.LaneState.rate_is) ∙ ap (λ (n : ℕ). n % rate L.VARIANT) is.1 in
     let some = c.if-open-gt0.true in
-    c.absorb.ensures.lanes j inside
+    c.absorb_block.ensures.lanes j inside
     ∙ padded-update L.VARIANT (lane_before L.VARIANT key nonce ad) (L.lane s.state) s.block c.copy_part.new.target m g.met.S.LaneState.one_two_or_four
     (held-along L.VARIANT _ (L.lane s.state) s.block m _ is.3) (omega arith)
     (λ k low. let same : 0 + k ≡ k = omega arith in rw same at (c.copy_part.ensures.written k (omega arith)))
@@ -33,7 +33,7 @@ returns-then-open-gt0-clause-updates g c key nonce ad m stands =
     let some = c.if-open-gt0.true in
     let updated = is.2 in
     let last = block_count-part L.VARIANT (length m) (rate L.VARIANT) refl (rate-positive L.VARIANT g.met.S.LaneState.one_two_or_four) (omega arith) in
-    omega (arith, c.absorb.ensures.updates)
+    omega (arith, c.absorb_block.ensures.updates)
 
 pub returns-else-open-gt0-clause-lanes : goal.returns-else-open-gt0-clause-lanes
 unfolding Stands
