@@ -229,8 +229,8 @@ use make --no-print-directory -C "$root" check-install "OUT=$out" "PREFIX=$folde
 libraries=$system/lib/x86_64-linux-gnu
 use PKG_CONFIG_SYSROOT_DIR="$work/system" make --no-print-directory -C "$root" check-install "OUT=$out" "PREFIX=$system" "LIBRARIES=$libraries" \
     "EXAMPLES_FOLDER=$system/share/doc/libhunkravy-dev/examples"
-options=$(use PKG_CONFIG_PATH="$libraries/pkgconfig" pkg-config --cflags --libs hunkravy)
-[ "${options% }" = -lhunkravy ] || fail "pkg-config prints $options for the installed package"
+options=$(use PKG_CONFIG_PATH="$libraries/pkgconfig" pkg-config --static --cflags --libs hunkravy)
+[ "${options% }" = '-lhunkravy -Wl,--gc-sections' ] || fail "pkg-config prints $options for the installed package"
 if command -v cargo > /dev/null; then
     use CARGO_TARGET_DIR=target cargo run -q --offline --manifest-path "$folder/rust/Cargo.toml" --example first
 fi
