@@ -221,9 +221,9 @@ fn absorb_zeros<S: LaneState>(state: &mut S)
 // Updates the lanes by one rate block of a buffer: it is copied from `source` if there is one, and xored with the
 // keystream of `before`, which are the lanes before that, and the lanes take in the bytes that `pass` selects.
 //
-// Once the block is in the buffer, only locals are read. So LLVM need not know that a source lies apart from the buffer:
-// the block stays in registers, and another buffer costs no more than encryption in place. The rows are no longer needed
-// after their update.
+// Once the block is in the buffer, only locals are read. So LLVM need not know that a source lies apart from the
+// buffer: the block stays in registers, and another buffer costs no more than encryption in place. The rows are no
+// longer needed after their update.
 #[inline(always)]
 fn pass_block<S: LaneState>(
     before: S,
