@@ -19,7 +19,8 @@
 //! ```
 
 pub use crate::record::laws::{
-    erased_message, one_fault, one_record_stream, record_limits, record_stream_lengths,
+    damaged_within, erased_message, one_fault, one_record_stream, record_limits,
+    record_stream_lengths,
 };
 pub use aegis_base::laws::{
     bijection, ciphertext_prefix, init_of_one_lane, keystream_is_sealed_zeros, keystream_prefix,

@@ -1,8 +1,8 @@
 //! Sealed files in memory.
 
-ghost use Rattle.std.specs.Prelude.{◌≡◌, ◌+◌, ◌*◌, ◌<◌, ◌≤◌, Err, IfErr, IfOk, List, length, ℕ};
+ghost use Rattle.std.specs.Prelude.{◌≡◌, ◌+◌, ◌*◌, ◌<◌, ◌≤◌, ◌⊎◌, Err, IfErr, IfOk, List, length, ℕ};
 ghost use Rattle.aegis_base.specs.declared.error.TheConstants.{MAX_AEAD_BYTES};
-ghost use Rattle.aegis.specs.RecordStream.{start_at};
+ghost use Rattle.aegis.specs.RecordStream.{IsFaultAt, position_after, sealed, start_at};
 ghost use Rattle.aegis_files.specs.Opening.{AreContentsFrom, AreFrom, IsFileInPieces, IsFileWithPrefix, IsSealedFile, part_of, part_of_contents, pieces_in};
 ghost use Rattle.aegis.specs.declared.record.error.RecordError.{RecordError};
 ghost use Rattle.aegis.specs.declared.record.version.Version.TheVariants.{Second};
@@ -101,6 +101,30 @@ pub fn open_part<A: Allocator + Copy>(
         → AreContentsFrom key.now prefix.now context.now range.position following contents
         records.now
         → (why : RecordError) → e ≡ FileError.Stream why → why ≡ RecordError.OutOfMemory) }
+{
+    let mut part = Vec::new(alloc);
+    let mut input = records;
+    open_range(alloc, key, prefix, context, range, &mut input, &mut part)?;
+    Ok(part)
+}
+
+/// Opens a part of the contents. The error names the fault of the record after those that were opened, if memory did
+/// not run out.
+pub fn open_part_or_fault<A: Allocator + Copy>(
+    alloc: A,
+    key: &Key,
+    prefix: &[u8; 24],
+    context: &[u8],
+    range: ContentsRange,
+    records: &[u8],
+) -> Result<Vec<u8, A>, FileError>
+    requires context_within { length context.now ≤ MAX_CONTEXT_BYTES }
+    requires version { range.position.version ≡ Second }
+    requires start_within { start_at range.position ≤ MAX_AEAD_BYTES }
+    ensures { IfErr result (λ e. (messages : List (List ℕ)) × (rest : List ℕ)
+        × ((why : RecordError) → e ≡ FileError.Stream why → (why ≡ RecordError.OutOfMemory)
+        ⊎ IsFaultAt (sealed key.now prefix.now context.now)
+        (position_after range.position messages) rest why)) }
 {
     let mut part = Vec::new(alloc);
     let mut input = records;

@@ -1,4 +1,5 @@
 pub mod Cutting
+mod Damaging
 pub mod Files
 pub mod Filling
 pub mod NextRecord

@@ -1,10 +1,11 @@
 -- The next record is read, and opened where it lies.
-use Rattle.std.proofs.Common.{◌≡◌, ℕ, ◌+◌, ◌<◌, ◌≤◌, Bool, List, [], ◌++◌, Option, Err, drop, length, take, refl, sym, ap, subst, ◌∙◌, arith}
+use Rattle.std.proofs.Common.{◌≡◌, ℕ, ◌+◌, ◌<◌, ◌≤◌, Bool, false, List, [], ◌++◌, Option, Err, drop, length, take, refl, sym, ap, subst, ◌∙◌, arith}
 use Rattle.std.proofs.lemmas.List.{append-nil, drop-append-le, length-append, length-drop, nil_from_length, take-append-drop, take-append-le, take-take}
 use Rattle.std.specs.Bool.{OnFalse, OnTrue}
 use Rattle.std.specs.Io.KnownBytes.{Consumes, IsAtEnd}
+use Rattle.aegis.proofs.Reading.{fault_more}
 use Rattle.aegis.proofs.Stepwise.{begun_parts, length-record}
-use Rattle.aegis.specs.RecordResults.{IsFirstFault, OpensNext, Progress, last_flag, message_of, record_of}
+use Rattle.aegis.specs.RecordResults.{IsFirstFault, IsRecordFault, OpensNext, Progress, last_flag, message_of, record_of, sealing_in}
 use Rattle.aegis.specs.RecordStream.{IsFault, limit, parts}
 use Rattle.aegis.specs.declared.record.error.RecordError.{RecordError}
 use Rattle.aegis.specs.declared.record.error.RecordError.TheVariants as errors
@@ -60,6 +61,7 @@ pub head_refused : (p : Progress) (left left' : Option (List ℕ)) (head : List 
 head_refused p left left' head e read refused = Refused e refl (read_some left left' head _ read
     (λ all rest known is end ms before b. subst (λ (l : List ℕ). IsFault p.key p.prefix p.context (before ++ l) e) (sym is)
     (begun_parts p (head ++ rest) e (refused rest) ms before b)))
+    (read_some left left' head _ read (λ all rest known is end unended. rw (is, refused rest) refl))
 
 -- no bytes were left
 parts_none : (v : Version) → parts v [] ≡ Err errors.Truncated
@@ -67,13 +69,16 @@ unfolding parts
 parts_none v = refl
 
 pub not_opened : (p : Progress) (left left' : Option (List ℕ)) (found : List ℕ) (e : RecordError) → Consumes left left' found → IsFirstFault p found e
-    → (e ≡ errors.Truncated → IsAtEnd left') → FailsNext p left (Stream e)
-not_opened p left left' found e read fault end = Refused e refl (read_some left left' found _ read
+    → (p.ended ≡ false → IsRecordFault p found e) → (e ≡ errors.Truncated → IsAtEnd left') → FailsNext p left (Stream e)
+not_opened p left left' found e read fault here end = Refused e refl (read_some left left' found _ read
     (λ all rest known is after ms before b. subst (λ (l : List ℕ). IsFault p.key p.prefix p.context (before ++ l) e) (sym is)
     (fault ms before rest b (λ cut. at_end rest left' after (end cut)))))
+    (read_some left left' found _ read (λ all rest known is after unended. subst (λ (l : List ℕ). IsRecordFault p l e) (sym is)
+    (fault_more (sealing_in p) p.position found rest e (here unended) (λ cut. at_end rest left' after (end cut)))))
 
 pub nothing_left : (p : Progress) (left left' : Option (List ℕ)) → Consumes left left' [] → (parts p.position.version [] ≡ Err errors.Truncated → IsAtEnd left')
     → FailsNext p left (Stream errors.Truncated)
 nothing_left p left left' read end = not_opened p left left' [] errors.Truncated read
     (λ ms before more b none. begun_parts p more errors.Truncated (ap (parts p.position.version) (none refl) ∙ parts_none p.position.version) ms before b)
+    (λ _. rw (parts_none p.position.version) refl)
     (λ _. end (parts_none p.position.version))

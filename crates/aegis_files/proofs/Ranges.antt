@@ -10,8 +10,8 @@ use Rattle.aegis_base.specs.declared.error.TheConstants.{MAX_AEAD_BYTES}
 use Rattle.aegis.specs.declared.record.error.RecordError.{RecordError}
 use Rattle.aegis.specs.declared.record.error.RecordError.TheVariants as errors
 use Rattle.aegis.specs.declared.record.position.RecordPosition.{RecordPosition}
-use Rattle.aegis.specs.RecordResults.{AreRecordsOfSomeVersion, Begun, Progress, progress_after, last_flag, progress_at, record_of, start_of}
-use Rattle.aegis.specs.RecordStream.{IsFault, Sealing, frames, position_after, sealed, start_at}
+use Rattle.aegis.specs.RecordResults.{AreRecordsOfSomeVersion, Begun, Progress, progress_after, last_flag, progress_at, record_of, sealing_in, start_of}
+use Rattle.aegis.specs.RecordStream.{IsFault, IsFaultAt, Sealing, frames, position_after, sealed, start_at}
 use Rattle.aegis.proofs.Frames.{one_fault}
 use Rattle.aegis.proofs.Sealed.{sealed-is}
 use Rattle.aegis.proofs.Stepwise.{begun_all, begun_beginning, begun_whole, sealed_one_stream}
@@ -100,10 +100,28 @@ pub fails_from : (key prefix context : List ℕ) (at : RecordPosition) (p : Prog
     → Reaches key prefix context at p false messages taken → f ≡ taken ++ rest → FailsNext p (Some rest) e → RefusesFrom key prefix context at f e
 fails_from key prefix context at p messages taken rest f e r is (Unread read) = grind (arith, refuses_from)
 fails_from key prefix context at p messages taken rest f e r is (NoMemory none) = grind (arith, refuses_from)
-fails_from key prefix context at p messages taken rest f e r is (Refused why it fault) =
+fails_from key prefix context at p messages taken rest f e r is (Refused why it fault here) =
     let faults = faults_more key prefix context at p messages taken rest f why r is fault in grind (arith, refuses_from)
 fails_from key prefix context at p messages taken rest f e r is (Long it past) =
     let size = reaches_size key prefix context at p false messages taken r in grind (arith, refuses_from, length-append)
+
+-- it is the fault of the record after those that were opened
+abbrev IsFaultAfter : (key prefix context : List ℕ) (at : RecordPosition) (messages : List (List ℕ)) (rest : List ℕ) (e : FileError) → Type 0
+IsFaultAfter key prefix context at messages rest e =
+    (why : RecordError) → e ≡ Stream why → (why ≡ errors.OutOfMemory) ⊎ IsFaultAt (sealed key prefix context) (position_after at messages) rest why
+
+fault_after : (key prefix context : List ℕ) (at : RecordPosition) (p : Progress) (messages : List (List ℕ)) (taken rest : List ℕ) (e : FileError)
+    → Reaches key prefix context at p false messages taken → FailsNext p (Some rest) e → IsFaultAfter key prefix context at messages rest e
+fault_after key prefix context at p messages taken rest e r (Unread read) why is = absurd cc
+fault_after key prefix context at p messages taken rest e r (NoMemory none) why is = inl cc
+fault_after key prefix context at p messages taken rest e r (Refused other it fault here) why is =
+    let same : other ≡ why = cc in
+    let reached = subst (λ (q : Progress). q.ended ≡ false → IsFaultAt (sealing_in q) q.position rest other) r.reached here refl in
+    inr (subst (λ (f : RecordError). IsFaultAt (sealed key prefix context) (position_after at messages) rest f) same reached)
+fault_after key prefix context at p messages taken rest e r (Long it past) why is = absurd cc
+
+no_fault : (key prefix context : List ℕ) (at : RecordPosition) (messages : List (List ℕ)) (rest : List ℕ) (e : FileError) → IsWriteError e → IsFaultAfter key prefix context at messages rest e
+no_fault key prefix context at messages rest e written why is = absurd cc
 
 -- ---- between records
 
@@ -222,9 +240,9 @@ range_end key prefix context range p is_last skip more opened stream left old ne
 
 stopped : (key prefix context : List ℕ) (range : ContentsRange) (p : Progress) (is_last : Bool) (messages : List (List ℕ)) (taken f rest begun more : List ℕ) (old new : Option (List ℕ)) (e : FileError)
     → Reaches key prefix context range.position p is_last messages taken → start_of p ≤ MAX_AEAD_BYTES → f ≡ taken ++ rest → Appends old new begun
-    → part_of range messages ≡ begun ++ more → (more ≡ []) ⊎ IsWriteError e → RefusesFrom key prefix context range.position f e
-    → StopsRange key prefix context range f old new e
-stopped key prefix context range p is_last messages taken f rest begun more old new e r fits is written parts all refuses =
+    → part_of range messages ≡ begun ++ more → (more ≡ []) ⊎ IsWriteError e → IsFaultAfter key prefix context range.position messages rest e
+    → RefusesFrom key prefix context range.position f e → StopsRange key prefix context range f old new e
+stopped key prefix context range p is_last messages taken f rest begun more old new e r fits is written parts all fault refuses =
     let records = are_from key prefix context range.position p is_last messages taken rest f r is in
     record {
       messages = messages;
@@ -241,6 +259,7 @@ stopped key prefix context range p is_last messages taken f rest begun more old 
             more ++ others,
             contents_part key prefix context range messages following contents f (last_flag is_last) t on ∙ ap (λ (l : List ℕ). l ++ others) parts ∙ append_assoc begun more others,
           );
+      fault = fault;
       refuses = refuses;
     }
 
@@ -250,6 +269,7 @@ pub stops_next : (key prefix context : List ℕ) (range : ContentsRange) (p : Pr
 stops_next key prefix context range p skip more stream left old new e s why = read_some stream left s.taken _ s.read (λ f rest known is after.
     stopped key prefix context range p false s.messages s.taken f rest (part_of range s.messages) [] old new e s.reads s.fits is s.written
     (sym (append-nil (part_of range s.messages))) (inl refl)
+    (fault_after key prefix context range.position p s.messages s.taken rest e s.reads (subst (λ l. FailsNext p l e) after why))
     (fails_from key prefix context range.position p s.messages s.taken rest f e s.reads is (subst (λ l. FailsNext p l e) after why)))
 
 pub stops_write : (key prefix context : List ℕ) (range : ContentsRange) (p q : Progress) (is_last : Bool) (skip more n : ℕ) (stream left left' old new new' : Option (List ℕ)) (m piece : List ℕ) (e : FileError)
@@ -265,4 +285,4 @@ stops_write key prefix context range p q is_last skip more n stream left left' o
     (Appends-trans old new new' so_far (take n piece) s.written written)
     (part_more range s.messages m piece skip more s.skip_is s.more_is piece_is ∙ ap (λ (l : List ℕ). so_far ++ l) (sym (take-append-drop n piece))
     ∙ sym (append_assoc so_far (take n piece) (drop n piece)))
-    (inr why) (unwritten key prefix context range.position f e why))
+    (inr why) (no_fault key prefix context range.position (s.messages ++ m ∷ []) rest e why) (unwritten key prefix context range.position f e why))

@@ -7,7 +7,7 @@ use Rattle.aegis_base.specs.Variant.{max_aead_bytes}
 use Rattle.aegis_files.specs.declared.error.FileError.{FileError}
 use Rattle.aegis_files.specs.declared.error.FileError.TheVariants.{Read, Write, TooLong, Stream}
 use Rattle.aegis.specs.declared.record.version.Version.TheVariants.{Second}
-use Rattle.aegis.specs.RecordStream.{AreRecords, AreWithin, IsFault, beginning, first_position, frames, header, position_after, sealed, start_at, record_overhead, prefix_bytes}
+use Rattle.aegis.specs.RecordStream.{AreRecords, AreWithin, IsFault, IsFaultAt, beginning, first_position, frames, header, position_after, sealed, start_at, record_overhead, prefix_bytes}
 use Rattle.aegis.specs.declared.record.error.RecordError.{RecordError}
 use Rattle.aegis.specs.declared.record.error.RecordError.TheVariants as errors
 use Rattle.aegis.specs.RecordResults.{AreRecordsOfSomeVersion, Begun, last_flag, progress_at}
@@ -60,7 +60,6 @@ pub record IsFileInPieces (key prefix context contents file : List ℕ) : Type 0
   pub is : IsFileWithPrefix key prefix context contents file
   pub pieces : is.messages ≡ messages_for contents
   pub size : length file ≡ prefix_bytes + stream_length (length contents)
-  -- the stream is within the limit
   pub fits : stream_length (length contents) ≤ max_aead_bytes
 
 -- ---- why sealing failed
@@ -163,6 +162,7 @@ pub record StopsRange (key prefix context : List ℕ) (range : ContentsRange) (s
   -- so it is a beginning of the part of the contents, if there is one
   pub of_contents : (following : List (List ℕ)) (contents : List ℕ) → AreContentsFrom key prefix context range.position following contents stream
       → (more : List ℕ) × (part_of_contents range contents ≡ begun ++ more)
+  pub fault : (why : RecordError) → e ≡ Stream why → (why ≡ errors.OutOfMemory) ⊎ IsFaultAt (sealed key prefix context) (position_after range.position messages) rest why
   pub refuses : RefusesFrom key prefix context range.position stream e
 
 -- ---- opening a file, and sealing it anew under another key

@@ -1,5 +1,5 @@
 -- What the bodies and their proofs use, and no public contract.
-use Rattle.std.specs.Prelude.{◌≡◌, ℕ, ◌+◌, ◌<◌, ◌≤◌, ◌⊎◌, List, ◌++◌, Option, length, ◌≢◌, Bool, IfSome, drop, take}
+use Rattle.std.specs.Prelude.{◌≡◌, ℕ, ◌+◌, ◌<◌, ◌≤◌, ◌⊎◌, List, ◌++◌, Option, length, ◌≢◌, Bool, false, IfSome, drop, take}
 use Rattle.std.specs.Io.KnownBytes.{Consumes, IsAtEnd}
 use Rattle.aegis_base.specs.Variant.{max_aead_bytes}
 use Rattle.aegis_files.specs.declared.error.FileError.{FileError}
@@ -8,7 +8,7 @@ use Rattle.aegis.specs.declared.record.version.Version.TheVariants.{Second}
 use Rattle.aegis.specs.RecordStream.{IsFault, header, limit, prefix_bytes}
 use Rattle.aegis.specs.declared.record.error.RecordError.{RecordError}
 use Rattle.aegis.specs.declared.record.error.RecordError.TheVariants as errors
-use Rattle.aegis.specs.RecordResults.{Begun, Progress, progress_after, last_flag, record_of, start_of}
+use Rattle.aegis.specs.RecordResults.{Begun, IsRecordFault, Progress, progress_after, last_flag, record_of, start_of}
 use Rattle.aegis_files.specs.Opening.{IsReadError}
 
 -- The bytes `from..end` of a buffer were read: all up to `to`, or all that were left. Those before them are as they were, so if
@@ -33,7 +33,7 @@ pub data FailsNext (p : Progress) (left : Option (List ℕ)) (e : FileError) : T
   Unread : IsReadError e → FailsNext p left e
   NoMemory : e ≡ Stream errors.OutOfMemory → FailsNext p left e
   Refused : (why : RecordError) → e ≡ Stream why → IfSome left (λ rest. (ms : List (List ℕ)) (before : List ℕ) → Begun p ms before
-      → IsFault p.key p.prefix p.context (before ++ rest) why) → FailsNext p left e
+      → IsFault p.key p.prefix p.context (before ++ rest) why) → IfSome left (λ rest. p.ended ≡ false → IsRecordFault p rest why) → FailsNext p left e
   Long : e ≡ TooLong → IfSome left (λ rest. max_aead_bytes < start_of p + length rest) → FailsNext p left e
 
 -- a read failed, or some bytes were left

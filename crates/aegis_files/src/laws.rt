@@ -1,10 +1,14 @@
 //! Laws of sealed files: functions that do nothing, and whose contracts are facts about the definitions that the other
 //! contracts cite.
 
-ghost use Rattle.std.specs.Prelude.{◌≡◌, ◌<◌, ◌≤◌, ◌∷◌, ◌++◌, [], List, length, ℕ};
+ghost use Rattle.std.specs.Prelude.{◌≡◌, ◌+◌, ◌*◌, ◌<◌, ◌≤◌, ◌∷◌, ◌++◌, [], List, Option, length, ℕ};
 ghost use Rattle.std.specs.List.{AllByRecursion, concat};
-ghost use Rattle.aegis_files.specs.Opening.{IsSealedFile, piece_bytes, pieces_in, pieces_of};
+ghost use Rattle.aegis.specs.RecordStream.{prefix_bytes, record_overhead};
+ghost use Rattle.aegis.specs.declared.record.error.RecordError.TheVariants.{Damaged};
+ghost use Rattle.aegis_files.specs.Opening.{IsSealedFile, RefusesFile, StopsRange, piece_bytes, pieces_in, pieces_of};
 
+use crate::error::FileError;
+use crate::range::ContentsRange;
 use crate::seal::PIECE_BYTES;
 
 /// Under one key and context, a sealed file has at most one plaintext, and one list of messages. No sealed file is a
@@ -17,6 +21,21 @@ pub fn one_contents()
         → x.is.messages ≡ y.is.messages }
     ensures whole { (key context file rest a b : List ℕ)
         → IsSealedFile key context a file → IsSealedFile key context b (file ++ rest) → rest ≡ [] }
+{}
+
+/// The record that `Damaged` names lies in the file. If opening began at a position, it is the record there or one
+/// after it, and lies in the bytes from the position on.
+pub fn damaged_record()
+    ensures file { (key context file : List ℕ) (e : FileError) (k : ℕ)
+        → RefusesFile key context file e → e ≡ FileError.Stream (Damaged k)
+        → prefix_bytes + 4 + record_overhead * (k + 1) ≤ length file }
+    ensures range { (key prefix context : List ℕ) (range : ContentsRange) (stream : List ℕ)
+        (old new : Option (List ℕ)) (e : FileError) (k : ℕ)
+        → StopsRange key prefix context range stream old new e
+        → e ≡ FileError.Stream (Damaged k)
+        → (range.position.number ≤ k)
+        × (record_overhead * (k + 1)
+        ≤ record_overhead * range.position.number + length stream) }
 {}
 
 /// The pieces of contents, one after the other, are the contents. Each has 65,536 bytes, but the last one, which has at

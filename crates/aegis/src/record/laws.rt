@@ -1,11 +1,11 @@
 //! Laws of record streams: functions that do nothing, and whose contracts are facts about the definitions that the
 //! other contracts cite.
 
-ghost use Rattle.std.specs.Prelude.{◌≡◌, ◌<◌, ◌++◌, List, length, ℕ};
+ghost use Rattle.std.specs.Prelude.{◌≡◌, ◌+◌, ◌*◌, ◌<◌, ◌≤◌, ◌++◌, List, length, ℕ};
 ghost use Rattle.aegis_base.specs.Message.{erased_byte};
 ghost use Rattle.aegis.specs.RecordStream.{AreRecords, IsFault, IsOneFault, IsOneRecordStream, header, limit, max_context_bytes, record_overhead, records_length, sealed};
 ghost use Rattle.aegis.specs.RecordResults.{AreRecordsOfSomeVersion, Begun, Progress, start_of};
-ghost use Rattle.aegis.specs.declared.record.error.RecordError.TheVariants.{Trailing};
+ghost use Rattle.aegis.specs.declared.record.error.RecordError.TheVariants.{Damaged, Trailing};
 ghost use Rattle.aegis.specs.declared.record.version.Version.{Version};
 
 use crate::record::length::{HEADER_BYTES, RECORD_BYTES};
@@ -41,6 +41,15 @@ pub fn one_record_stream()
 /// Under one key, prefix and context, bytes have at most one fault, and a stream has none.
 pub fn one_fault()
     ensures { (key prefix context : List ℕ) → IsOneFault (sealed key prefix context) }
+{}
+
+/// The record that [`Damaged`](crate::record::RecordError::Damaged) names lies in the bytes: they have a header, and 37
+/// bytes for this record and for each one before it.
+#[tactic(auto, using(crate::proofs::Lengths::damaged_laws))]
+pub fn damaged_within()
+    ensures { (key prefix context bytes : List ℕ) (k : ℕ)
+        → IsFault key prefix context bytes (Damaged k)
+        → 4 + record_overhead * (k + 1) ≤ length bytes }
 {}
 
 /// A stream has 4 bytes, and for each message 37 and its length.

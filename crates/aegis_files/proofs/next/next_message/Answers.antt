@@ -35,4 +35,4 @@ returns-in_err-open_next_in_place-clause-failed g c =
     let p = err_from_is_err_and c.from_residual-in_err-open_next_in_place.result c.from_residual-in_err-open_next_in_place.ensures.1 in
     let found = c.split_at_mut-record.ensures.front ∙ ap (take c.in_ok-count.count) c.deref_mut.ensures.value in
     let e = c.in_err-open_next_in_place.ensures.refused in
-    rw (p.1, p.2) (not_opened c.args.opener.now _ _ _ _ c.in_ok-count.ensures.read (rw found at e.first) (λ is. c.in_ok-count.ensures.cut (rw found at (e.cut is))))
+    rw (p.1, p.2) (not_opened c.args.opener.now _ _ _ _ c.in_ok-count.ensures.read (rw found at e.first) (rw found at e.fault) (λ is. c.in_ok-count.ensures.cut (rw found at (e.cut is))))
