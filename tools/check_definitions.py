@@ -12,6 +12,7 @@ PAGE = pathlib.Path("docs/ARCHITECTURE.md")
 
 # The sources whose public functions and types users name, by their folders.
 PUBLIC = {
+    "aegis/src": "laws",
     "aegis/src/record": "laws length migration open position seal version record_opener record_opener/in_place record_sealer "
     "record_sealer/in_place",
     "aegis_aes/src": "block block2 block4",

@@ -8,6 +8,7 @@ pub mod encrypted_file;
 pub mod headline;
 pub mod in_parts;
 pub mod in_place;
+pub mod named_variant;
 pub mod one_call;
 pub mod opening;
 pub mod session_token;
