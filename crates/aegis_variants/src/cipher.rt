@@ -138,6 +138,7 @@ fn open_whole<S: LaneState, U, const KEY_BYTES: usize, const TAG_BYTES: usize>(
         → Opens S.VARIANT TAG_BYTES cipher.now.key cipher.now.nonce associated_data.now
         (joined chunks.now) tag.now m
         → message.new ≡ m }
+    ensures erased { OnErr result (message.new ≡ replicate (length message.old) 0) }
     ensures error { IfErr result (λ e. e ≡ Error.InvalidTag) }
 {
     cipher.open_chunks_len(associated_data, chunks, tag, message)
@@ -297,7 +298,8 @@ impl AnyCipher {
     /// Opens a ciphertext that is a list of chunks. Writes the message into a destination that must be as long as all
     /// chunks together.
     ///
-    /// The only error is [`Error::InvalidTag`], if no message is sealed to the ciphertext and the tag.
+    /// The only error is [`Error::InvalidTag`], if no message is sealed to the ciphertext and the tag. Every byte of
+    /// the destination is then zero.
     pub fn open_chunks<const TAG_BYTES: usize>(
         &self,
         associated_data: &[u8],
@@ -318,6 +320,7 @@ impl AnyCipher {
         ensures only { (m : List ℕ)
             → sealed_by self.now TAG_BYTES associated_data.now m ≡ (joined chunks.now, tag.now)
             → message.new ≡ m }
+        ensures erased { OnErr result (message.new ≡ replicate (length message.old) 0) }
         ensures error { IfErr result (λ e. e ≡ Error.InvalidTag) }
     {
         with_cipher!(self, TAG_BYTES, cipher => {

@@ -1,6 +1,6 @@
 //! Callers of a variant that is chosen while the program runs.
 
-ghost use Rattle.std.specs.Prelude.{◌≡◌, ◌≤◌, ◌++◌, IsOk, false, length, true};
+ghost use Rattle.std.specs.Prelude.{◌≡◌, ◌≤◌, ◌++◌, IsOk, OnErr, false, length, replicate, true};
 ghost use Rattle.aegis_base.specs.Mac.{mac};
 ghost use Rattle.aegis_base.specs.Message.{keystream};
 ghost use Rattle.aegis_variants.specs.Cipher.{key_of, nonce_of, variant_of, standard_of};
@@ -25,6 +25,21 @@ pub fn sealed_and_opened(
 {
     let tag = cipher.seal_chunks::<32>(header, &[message], sealed);
     cipher.open_chunks(header, &[sealed], &tag, opened)
+}
+
+/// Decrypts a ciphertext in two chunks. If that fails, zeros alone are left, whatever the ciphertext was.
+pub fn opened_or_zeros(
+    cipher: &AnyCipher,
+    first: &[u8],
+    second: &[u8],
+    tag: &[u8; 32],
+    opened: &mut [u8],
+) -> Result<(), Error>
+    requires within { length (first.now ++ second.now) ≤ MAX_AEAD_BYTES }
+    requires opened_length { length opened.old ≡ length (first.now ++ second.now) }
+    ensures { OnErr result (opened.new ≡ replicate (length opened.old) 0) }
+{
+    cipher.open_chunks(&[], &[first, second], tag, opened)
 }
 
 /// Fills a buffer with the keystream of a variant. Returns `false`, and leaves the buffer as it was, if the key or the

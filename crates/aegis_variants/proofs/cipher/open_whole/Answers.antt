@@ -1,6 +1,6 @@
 -- All chunks are kept, and the message fills the destination.
-use Rattle.std.proofs.Common.{length, arith}
-use Rattle.std.proofs.lemmas.List.{take_all}
+use Rattle.std.proofs.Common.{length, arith, append-nil}
+use Rattle.std.proofs.lemmas.List.{drop_all, take_all}
 use Rattle.aegis_base.specs.Chunks.{joined}
 use Rattle.aegis_variants.proofs.OpenFacts.{whole_accepted}
 use Rattle.aegis_variants.proofs.cipher.open_whole.Goals as goal
@@ -25,3 +25,9 @@ returns-clause-only g c =
     let lengths = c.requires.lengths in
     let all = take_all (length (joined c.args.chunks.now)) c.open_chunks_len.new.dst (omega (arith, long, lengths)) in
     rw (whole, all) at c.open_chunks_len.ensures.only
+
+pub returns-clause-erased : goal.returns-clause-erased
+returns-clause-erased g c =
+    let whole = whole_accepted c.args.chunks.now (length c.args.message.now) c.requires.ciphertext c.requires.lengths in
+    let none = drop_all (length (joined c.args.chunks.now)) c.args.message.now (omega arith) in
+    rw (whole, none, append-nil, ← c.requires.lengths) at c.open_chunks_len.ensures.erased
