@@ -9,4 +9,5 @@ pub mod page_counter;
 pub mod page_table;
 pub mod reopened_file;
 pub mod replaced_value;
+pub mod single_pages;
 pub mod steps_by_hand;

@@ -1,7 +1,8 @@
 //! The header of a file.
 
-ghost use Rattle.std.specs.Prelude.{◌≡◌, ◌+◌, ◌<◌, ◌≤◌, ◌^◌, IfErr, IfNone, IfOk, IfSome, IsSome, Some, length, ℕ};
+ghost use Rattle.std.specs.Prelude.{◌≡◌, ◌+◌, ◌<◌, ◌≤◌, ◌^◌, IfErr, IfNone, IfOk, IfSome, IsSome, Some, length, replicate, ℕ};
 ghost use Rattle.std.specs.Int.{to_le_bytes, w64};
+ghost use Rattle.aegis_base.specs.Message.{erased_byte};
 ghost use Rattle.aegis_base.specs.Variant.{key_length};
 ghost use Rattle.aegis_storage.specs.Disk.{part_at};
 ghost use Rattle.aegis_pages.specs.Commits.{IsStorageReadError};
@@ -14,6 +15,7 @@ use crate::layout::{
 };
 use crate::page::open_page_at;
 use aegis_base::LaneState;
+use aegis_engine::ERASED;
 use aegis_storage::Storage;
 use aegis_storage::bytes::array_of;
 
@@ -95,9 +97,8 @@ pub fn open_header<L: LaneState, const KEY_BYTES: usize>(
     Some((counter, len))
 }
 
-/// Opens a header block, and returns its header, or `None` if it has none that was sealed with this variant and under
-/// the key.
-pub fn open_header_block<L: LaneState, const KEY_BYTES: usize>(
+// Finds the header of a header block, and may leave any bytes in it.
+fn found_header<L: LaneState, const KEY_BYTES: usize>(
     key: &[u8; KEY_BYTES],
     header_block: &mut [u8],
 ) -> Option<FileHeader>
@@ -120,6 +121,29 @@ pub fn open_header_block<L: LaneState, const KEY_BYTES: usize>(
         counter,
         len,
     })
+}
+
+/// Opens a header block, and returns its header, or `None` if it has none that was sealed with this variant and under
+/// the key. Every byte of the block is then [`ERASED`].
+pub fn open_header_block<L: LaneState, const KEY_BYTES: usize>(
+    key: &[u8; KEY_BYTES],
+    header_block: &mut [u8],
+) -> Option<FileHeader>
+    requires key_bytes { KEY_BYTES ≡ key_length L.VARIANT.family }
+    requires long { length header_block.old ≡ HEADER_BLOCK_BYTES }
+    ensures opened { IfSome result (λ header.
+        IsHeaderBlock (layout_of L.VARIANT key.now header) header.counter header.len
+        header_block.old) }
+    ensures found { (layout : Layout) (counter len : ℕ) → layout.variant ≡ L.VARIANT
+        → layout.key ≡ key.now → IsHeaderBlock layout counter len header_block.old → IsSome result }
+    ensures erased { IfNone result
+        (header_block.new ≡ replicate (length header_block.old) erased_byte) }
+{
+    let found = found_header::<L, KEY_BYTES>(key, header_block);
+    if found.is_none() {
+        header_block.fill(ERASED);
+    }
+    found
 }
 
 /// Reads the header block of a file, or returns `None` if the file is shorter. Returns [`PagesError::Read`].

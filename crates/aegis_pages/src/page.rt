@@ -2,7 +2,8 @@
 //!
 //! A sealed page is a nonce, a ciphertext and a tag.
 
-ghost use Rattle.std.specs.Prelude.{◌≡◌, ◌+◌, ◌*◌, ◌-◌, ◌≤◌, ◌⊎◌, ◌^◌, IfErr, IfOk, IfSome, List, OnOk, length, take, true, ℕ};
+ghost use Rattle.std.specs.Prelude.{◌≡◌, ◌+◌, ◌*◌, ◌-◌, ◌≤◌, ◌⊎◌, ◌^◌, IfErr, IfOk, IfSome, List, OnOk, false, length, replicate, take, true, ℕ};
+ghost use Rattle.aegis_base.specs.Message.{erased_byte};
 ghost use Rattle.aegis_pages.specs.Layouts.{OpensAt, sealed_bytes, inner, nonce_bytes, page_at, page_place};
 ghost use Rattle.aegis_pages.specs.Commits.{IsStorageReadError, IsSealError};
 
@@ -10,6 +11,7 @@ use crate::draws::Nonces;
 use crate::error::PagesError;
 use crate::layout::{FileLayout, MAX_CONTENTS_BYTES, TAG_BYTES};
 use aegis_base::LaneState;
+use aegis_engine::ERASED;
 use aegis_storage::bytes::put;
 use aegis_storage::{PendingWrite, Storage};
 use std::alloc::Allocator;
@@ -36,8 +38,8 @@ pub fn seal_page_at<L: LaneState, const KEY_BYTES: usize>(
     end.copy_from_slice(&tag);
 }
 
-/// Opens a sealed page in place, or erases it: the contents then stand where the ciphertext was.
-pub fn open_page_at<L: LaneState, const KEY_BYTES: usize>(
+// Opens a sealed page in place. Of one that does not open, only the contents are erased.
+fn open_contents<L: LaneState, const KEY_BYTES: usize>(
     layout: &FileLayout<L, KEY_BYTES>,
     number: u64,
     sealed: &mut [u8],
@@ -60,6 +62,28 @@ pub fn open_page_at<L: LaneState, const KEY_BYTES: usize>(
     let ad = layout.associated_data(number);
     let opened = layout.cipher(&nonce).decrypt_in_place(contents, &tag, &ad);
     opened.is_ok()
+}
+
+/// Opens a sealed page in place: its contents then stand where the ciphertext was. Returns `false` if no contents are
+/// sealed to it at this number. Every byte of it is then [`ERASED`].
+pub fn open_page_at<L: LaneState, const KEY_BYTES: usize>(
+    layout: &FileLayout<L, KEY_BYTES>,
+    number: u64,
+    sealed: &mut [u8],
+) -> bool
+    requires long { sealed_bytes layout.now 0 ≤ length sealed.old }
+    requires within { length sealed.old ≤ 2 ^ 32 }
+    ensures opened { result ≡ true
+        → OpensAt layout.now number sealed.old (inner layout.now sealed.new) }
+    ensures only { (m : List ℕ) → OpensAt layout.now number sealed.old m
+        → (result ≡ true) × (inner layout.now sealed.new ≡ m) }
+    ensures erased { result ≡ false → sealed.new ≡ replicate (length sealed.old) erased_byte }
+{
+    if open_contents(layout, number, sealed) {
+        return true;
+    }
+    sealed.fill(ERASED);
+    false
 }
 
 /// Reads a page and opens it: its contents then stand in the sealed page. Returns [`PagesError::Read`] or

@@ -1,6 +1,6 @@
 use Rattle.std.proofs.Common.{◌∙◌, ap, is_some, sym}
 use Rattle.aegis_pages.proofs.SealedFacts.{header_block_opens}
-use Rattle.aegis_pages.proofs.header.open_header_block.Goals as goal
+use Rattle.aegis_pages.proofs.header.found_header.Goals as goal
 
 pub returns-in_err-counter-clause-found : goal.returns-in_err-counter-clause-found
 returns-in_err-counter-clause-found g c = λ layout counter len variant key header_block.

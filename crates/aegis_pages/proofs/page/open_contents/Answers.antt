@@ -1,7 +1,7 @@
 use Rattle.std.proofs.Common.{◌-◌, ◌∙◌, drop, length, refl, sym, take}
 use Rattle.aegis_pages.specs.Layouts.{page_associated_data, inner, nonce_bytes}
 use Rattle.aegis_pages.proofs.SealedFacts.{cut, inner_of, moved, on_ok}
-use Rattle.aegis_pages.proofs.page.open_page_at.Goals as goal
+use Rattle.aegis_pages.proofs.page.open_contents.Goals as goal
 
 pub returns-clause-opened : goal.returns-clause-opened
 returns-clause-opened g c =
