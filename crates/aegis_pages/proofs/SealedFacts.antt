@@ -147,6 +147,15 @@ pub made_nonce : (layout : Layout) (plaintext nonce rest header_block : List ℕ
 made_nonce layout plaintext nonce rest header_block is lc ln =
     ap (λ (l : List ℕ). part_at l 33 (nonce_bytes layout)) is ∙ ap (take (nonce_bytes layout)) (drop_at plaintext (nonce ++ rest) 33 lc) ∙ take_at nonce rest (nonce_bytes layout) ln
 
+-- what follows it
+pub made_padding : (plaintext nonce contents tag rest header_block : List ℕ) (n : ℕ) → header_block ≡ plaintext ++ (nonce ++ (contents ++ (tag ++ rest)))
+    → n ≡ length plaintext + (length nonce + (length contents + length tag)) → drop n header_block ≡ rest
+made_padding plaintext nonce contents tag rest header_block n is count =
+    let parts : header_block ≡ (plaintext ++ (nonce ++ (contents ++ tag))) ++ rest = is ∙ simp append_assoc in
+    let long : length (plaintext ++ (nonce ++ (contents ++ tag))) ≡ n =
+    omega (arith, count, length-append plaintext (nonce ++ (contents ++ tag)), length-append nonce (contents ++ tag), length-append contents tag) in
+    ap (drop n) parts ∙ drop_at (plaintext ++ (nonce ++ (contents ++ tag))) rest n long
+
 -- ---- a header that is read
 
 -- what the encrypted part of a header block opens to, under the layout that its plaintext part names

@@ -1,11 +1,11 @@
 //! The header of a file.
 
-ghost use Rattle.std.specs.Prelude.{◌≡◌, ◌+◌, ◌<◌, ◌≤◌, ◌^◌, IfErr, IfNone, IfOk, IfSome, IsSome, Some, length, replicate, ℕ};
+ghost use Rattle.std.specs.Prelude.{◌≡◌, ◌+◌, ◌-◌, ◌<◌, ◌≤◌, ◌^◌, IfErr, IfNone, IfOk, IfSome, IsSome, Some, drop, length, replicate, ℕ};
 ghost use Rattle.std.specs.Int.{to_le_bytes, w64};
 ghost use Rattle.aegis_base.specs.Message.{erased_byte};
 ghost use Rattle.aegis_base.specs.Variant.{key_length};
 ghost use Rattle.aegis_storage.specs.Disk.{part_at};
-ghost use Rattle.aegis_pages.specs.Commits.{IsStorageReadError};
+ghost use Rattle.aegis_pages.specs.Commits.{IsStorageReadError, head_bytes};
 ghost use Rattle.aegis_pages.specs.Layouts.{HasNoHeader, IsHeaderBlock, header_plaintext, IsPageSize, Layout, OpensAt, sealed_bytes, nonce_bytes, HasHeader, layout_of};
 
 use crate::error::PagesError;
@@ -32,7 +32,7 @@ pub struct FileHeader {
     pub len: u64,
 }
 
-/// Returns the block of a header.
+/// Returns the block of a header: after the header it has zeros.
 pub fn seal_header<L: LaneState, const KEY_BYTES: usize>(
     layout: &FileLayout<L, KEY_BYTES>,
     nonce: &[u8; KEY_BYTES],
@@ -42,6 +42,8 @@ pub fn seal_header<L: LaneState, const KEY_BYTES: usize>(
     requires { len ≤ MAX_CONTENTS_BYTES }
     ensures header { IsHeaderBlock layout.now counter len result }
     ensures nonce { part_at result PLAINTEXT_HEADER_BYTES (nonce_bytes layout.now) ≡ nonce.now }
+    ensures padding { drop (head_bytes layout.now.variant) result
+        ≡ replicate (HEADER_BLOCK_BYTES - head_bytes layout.now.variant) 0 }
 {
     let used = PLAINTEXT_HEADER_BYTES
         + (HEADER_PLAINTEXT_BYTES + (layout.nonce_bytes() + TAG_BYTES));

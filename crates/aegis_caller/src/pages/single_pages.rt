@@ -1,11 +1,12 @@
-//! Pages and headers that a caller opens by itself.
+//! Pages and headers that a caller seals or opens by itself.
 
-ghost use Rattle.std.specs.Prelude.{◌≡◌, ◌≤◌, ◌^◌, false, length};
+ghost use Rattle.std.specs.Prelude.{◌≡◌, ◌≤◌, ◌^◌, drop, false, length};
 ghost use Rattle.aegis_base.specs.Variant.{key_length};
+ghost use Rattle.aegis_pages.specs.Commits.{head_bytes};
 ghost use Rattle.aegis_pages.specs.Layouts.{sealed_bytes};
 
 use aegis_base::LaneState;
-use aegis_pages::{FileLayout, open_header_block, open_page_at};
+use aegis_pages::{FileLayout, open_header_block, open_page_at, seal_header};
 
 /// Opens two pages of one length. If neither opens, the same bytes are left of both, so nothing of either of them.
 pub fn open_either<L: LaneState, const KEY_BYTES: usize>(
@@ -36,4 +37,20 @@ pub fn has_header<L: LaneState, const KEY_BYTES: usize>(
     let first = open_header_block::<L, KEY_BYTES>(key, header_block);
     let second = open_header_block::<L, KEY_BYTES>(key, other);
     first.is_some() || second.is_some()
+}
+
+/// Returns the blocks of the first two headers of a file. After the headers they have the same bytes.
+pub fn first_headers<L: LaneState, const KEY_BYTES: usize>(
+    layout: &FileLayout<L, KEY_BYTES>,
+    nonce: &[u8; KEY_BYTES],
+    other_nonce: &[u8; KEY_BYTES],
+    len: u64,
+) -> ([u8; 512], [u8; 512])
+    requires { len ≤ 2 ^ 60 }
+    ensures { drop (head_bytes layout.now.variant) result.0
+        ≡ drop (head_bytes layout.now.variant) result.1 }
+{
+    let first = seal_header(layout, nonce, 0, 0);
+    let second = seal_header(layout, other_nonce, 1, len);
+    (first, second)
 }

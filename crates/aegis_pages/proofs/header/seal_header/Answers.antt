@@ -1,8 +1,8 @@
-use Rattle.std.proofs.Common.{◌≡◌, ◌<◌, ◌^◌, arith, refl, sym}
-use Rattle.std.proofs.lemmas.List.{append-nil}
+use Rattle.std.proofs.Common.{◌≡◌, ◌<◌, ◌^◌, ◌∙◌, arith, refl, sym}
+use Rattle.std.proofs.lemmas.List.{append-nil, drop-replicate, take-replicate}
 use Rattle.aegis_pages.specs.Layouts.{header_plaintext, page_associated_data}
 use Rattle.aegis_pages.specs.declared.layout.TheConstants.{HEADER_NUMBER}
-use Rattle.aegis_pages.proofs.SealedFacts.{moved, made_nonce, made_header_block}
+use Rattle.aegis_pages.proofs.SealedFacts.{moved, made_nonce, made_header_block, made_padding}
 use Rattle.aegis_pages.proofs.header.seal_header.Goals as goal
 
 pub returns-clause-header : goal.returns-clause-header
@@ -20,3 +20,8 @@ returns-clause-header g c =
 pub returns-clause-nonce : goal.returns-clause-nonce
 returns-clause-nonce g c =
     made_nonce c.args.layout.now c.plaintext_header.result c.args.nonce.now _ c.array_of.result c.array_of.ensures (omega arith) (omega (arith, c.nonce_bytes.ensures.value, c.nonce_bytes.ensures.key))
+
+pub returns-clause-padding : goal.returns-clause-padding
+returns-clause-padding g c =
+    made_padding c.plaintext_header.result c.args.nonce.now c.encrypt_in_place-tag.new.mc c.encrypt_in_place-tag.result _ c.array_of.result _ c.array_of.ensures
+    (omega (arith, c.nonce_bytes.ensures.value, c.nonce_bytes.ensures.key, c.plaintext_header.ensures.size)) ∙ grind (arith, append-nil, drop-replicate, take-replicate, c.nonce_bytes.ensures.value)
