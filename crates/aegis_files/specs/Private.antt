@@ -1,11 +1,10 @@
 -- What the bodies and their proofs use, and no public contract.
-use Rattle.std.specs.Prelude.{◌≡◌, ℕ, ◌+◌, ◌<◌, ◌≤◌, ◌⊎◌, List, ◌++◌, Option, length, ◌≢◌, Bool, false, IfSome, drop, take}
+use Rattle.std.specs.Prelude.{◌≡◌, ℕ, ◌+◌, ◌<◌, ◌≤◌, ◌⊎◌, List, ◌++◌, Option, length, ◌≢◌, Bool, false, IfSome, take}
 use Rattle.std.specs.Io.KnownBytes.{Consumes, IsAtEnd}
 use Rattle.aegis_base.specs.Variant.{max_aead_bytes}
 use Rattle.aegis_files.specs.declared.error.FileError.{FileError}
 use Rattle.aegis_files.specs.declared.error.FileError.TheVariants.{TooLong, Stream}
-use Rattle.aegis.specs.declared.record.version.Version.TheVariants.{Second}
-use Rattle.aegis.specs.RecordStream.{IsFault, header, limit, prefix_bytes}
+use Rattle.aegis.specs.RecordStream.{IsFault, limit}
 use Rattle.aegis.specs.declared.record.error.RecordError.{RecordError}
 use Rattle.aegis.specs.declared.record.error.RecordError.TheVariants as errors
 use Rattle.aegis.specs.RecordResults.{Begun, IsRecordFault, Progress, progress_after, last_flag, record_of, start_of}
