@@ -527,7 +527,7 @@ impl<S: LaneState, U, const KEY_BYTES: usize, const TAG_BYTES: usize> Cipher<
         requires { length ad.now ≤ MAX_AEAD_BYTES }
         ensures* writes_back { sem 𝓛 (LendsIfOk (Array u8 0) (Array u8 0) dst.entry result
             (λ w. w ++ drop (length (accepted (length dst.old) chunks.now)) dst.old)
-            (erased (length (accepted (length dst.old) chunks.now)) dst.old)) }
+            (zeroed (length (accepted (length dst.old) chunks.now)) dst.old)) }
         ensures cases { MatchResult result
             (λ m. OpensChunks S.VARIANT TAG_BYTES self.now ad.now (length dst.old) chunks.now
             tag.now m.now)

@@ -108,7 +108,7 @@ impl<'a, S: LaneState, const TAG_BYTES: usize> Decryptor<'a, S, TAG_BYTES> {
     pub fn finalize(self, tag: &[u8; TAG_BYTES]) -> Result<&'a mut [u8], Error>
         ensures* writes_back { sem 𝓛 (LendsIfOk (Array u8 0) (Array u8 0) self.entry.dst result
             (λ w. w ++ drop (filled self.entry) self.entry.dst.now)
-            (erased (filled self.entry) self.entry.dst.now)) }
+            (zeroed (filled self.entry) self.entry.dst.now)) }
         ensures cases { MatchResult result
             (λ message. message.now ≡ decrypted self.entry)
             (λ e. e ≡ Error.InvalidTag) }

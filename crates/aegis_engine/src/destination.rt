@@ -21,7 +21,7 @@ pub fn accepted_message<'a>(checked: Checked<'a>) -> Result<&'a mut [u8], Error>
         → checked.dst.now ≡ zeroed checked.filled checked.dst.now }
     ensures* writes_back { sem 𝓛 (LendsIfOk (Array u8 0) (Array u8 0) checked.entry.dst result
         (λ w. w ++ drop checked.entry.filled checked.entry.dst.now)
-        (erased checked.entry.filled checked.entry.dst.now)) }
+        (zeroed checked.entry.filled checked.entry.dst.now)) }
     ensures cases { MatchResult result
         (λ message. (checked.entry.accepted ≡ true)
         × (message.now ≡ take checked.entry.filled checked.entry.dst.now)

@@ -23,7 +23,7 @@ mod journal;
 mod journal_file;
 pub mod laws;
 mod pending;
-mod read_all;
+mod reading;
 mod recovery;
 mod steps;
 mod store;
@@ -34,7 +34,7 @@ pub use journal::{
 };
 pub use journal_file::JournalFile;
 pub use pending::PendingWrite;
-pub use read_all::read_all;
+pub use reading::read_all;
 pub use recovery::recover;
 pub use steps::{Step, commit_step, recovery_step};
 pub use store::{MAX_STORAGE_BYTES, NoJournal, Storage};

@@ -7,7 +7,7 @@ ghost use Rattle.aegis_storage.specs.Steps.{AreRedone};
 
 use crate::driver::take_steps;
 use crate::journal::journaled_content;
-use crate::read_all::read_all;
+use crate::reading::read_all;
 use crate::steps::Order;
 use crate::store::Storage;
 use aegis::aegis128l::Key;
