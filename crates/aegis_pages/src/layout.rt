@@ -181,7 +181,7 @@ impl<L: LaneState, const KEY_BYTES: usize> FileLayout<L, KEY_BYTES> {
     }
 
     /// Returns the associated data of the page of a number, or of a header.
-    #[tactic(auto, unfolding(crate::specs::Layouts::associated_data))]
+    #[tactic(auto, unfolding(crate::specs::Layouts::page_associated_data))]
     pub fn associated_data(&self, number: u64) -> [u8; 41]
         ensures { result ≡ page_associated_data self.now number }
     {
