@@ -22,12 +22,12 @@ ghost use Rattle.std.specs.Prelude.{◌≡◌};
 ghost use Rattle.aegis_base.specs.Variant as base;
 ghost use Rattle.aegis_base.specs.Variant.{Variant};
 
-use crate::aegis128l::Aegis128L;
-use crate::aegis128x2::Aegis128X2;
-use crate::aegis128x4::Aegis128X4;
-use crate::aegis256::Aegis256;
-use crate::aegis256x2::Aegis256X2;
-use crate::aegis256x4::Aegis256X4;
+use crate::aegis128l::{Aegis128L, Aegis128LMac};
+use crate::aegis128x2::{Aegis128X2, Aegis128X2Mac};
+use crate::aegis128x4::{Aegis128X4, Aegis128X4Mac};
+use crate::aegis256::{Aegis256, Aegis256Mac};
+use crate::aegis256x2::{Aegis256X2, Aegis256X2Mac};
+use crate::aegis256x4::{Aegis256X4, Aegis256X4Mac};
 pub use crate::record::laws::{
     damaged_within, erased_message, one_fault, one_record_stream, record_limits,
     record_stream_lengths,
@@ -37,7 +37,7 @@ pub use aegis_base::laws::{
     bijection, ciphertext_prefix, init_of_one_lane, keystream_is_sealed_zeros, keystream_prefix,
     keystream_shared, keystream_xor_twice, lane_independence, limits, mac_of_tags, tag_lengths,
 };
-use aegis_engine::Cipher;
+use aegis_engine::{Cipher, Mac};
 
 /// A type that has a variant, such as [`Cipher`]. Only contracts name it.
 pub trait HasVariant {
@@ -51,6 +51,12 @@ impl<S: LaneState, U, const KEY_BYTES: usize, const TAG_BYTES: usize> HasVariant
     ghost VARIANT = { S.VARIANT };
 }
 
+impl<S: LaneState, const KEY_BYTES: usize, const TAG_BYTES: usize> HasVariant
+    for Mac<S, KEY_BYTES, TAG_BYTES> {
+    // In the contracts of a MAC it is `S.VARIANT`.
+    ghost VARIANT = { S.VARIANT };
+}
+
 /// The variant of each cipher is the one of its name.
 pub fn variants<const TAG_BYTES: usize>()
     ensures aegis128l { ⟦<Aegis128L<TAG_BYTES> as HasVariant>⟧.VARIANT ≡ base.Aegis128L }
@@ -59,4 +65,14 @@ pub fn variants<const TAG_BYTES: usize>()
     ensures aegis256 { ⟦<Aegis256<TAG_BYTES> as HasVariant>⟧.VARIANT ≡ base.Aegis256 }
     ensures aegis256x2 { ⟦<Aegis256X2<TAG_BYTES> as HasVariant>⟧.VARIANT ≡ base.Aegis256X2 }
     ensures aegis256x4 { ⟦<Aegis256X4<TAG_BYTES> as HasVariant>⟧.VARIANT ≡ base.Aegis256X4 }
+{}
+
+/// The variant of each MAC is the one of its name.
+pub fn mac_variants<const TAG_BYTES: usize>()
+    ensures aegis128l { ⟦<Aegis128LMac<TAG_BYTES> as HasVariant>⟧.VARIANT ≡ base.Aegis128L }
+    ensures aegis128x2 { ⟦<Aegis128X2Mac<TAG_BYTES> as HasVariant>⟧.VARIANT ≡ base.Aegis128X2 }
+    ensures aegis128x4 { ⟦<Aegis128X4Mac<TAG_BYTES> as HasVariant>⟧.VARIANT ≡ base.Aegis128X4 }
+    ensures aegis256 { ⟦<Aegis256Mac<TAG_BYTES> as HasVariant>⟧.VARIANT ≡ base.Aegis256 }
+    ensures aegis256x2 { ⟦<Aegis256X2Mac<TAG_BYTES> as HasVariant>⟧.VARIANT ≡ base.Aegis256X2 }
+    ensures aegis256x4 { ⟦<Aegis256X4Mac<TAG_BYTES> as HasVariant>⟧.VARIANT ≡ base.Aegis256X4 }
 {}

@@ -26,7 +26,7 @@ pub enum Refusal {
     WrongVariant,
     /// The context of a record stream has more than `MAX_CONTEXT_BYTES` bytes.
     ContextTooLong,
-    /// No version of record streams has this header.
+    /// The bytes are not the header of version 2 of record streams.
     UnknownHeader,
     /// A record has no room for its head and its tag.
     WrongRecordLength,

@@ -23,8 +23,9 @@ pub fn one_contents()
         → IsSealedFile key context a file → IsSealedFile key context b (file ++ rest) → rest ≡ [] }
 {}
 
-/// The record that `Damaged` names lies in the file. If opening began at a position, it is the record there or one
-/// after it, and lies in the bytes from the position on.
+/// The number that `Damaged` has is bounded by the length of the file: it has at least 37 bytes for this record and
+/// for each one before it. If opening began at a position, it is that record or a later one, and the bytes from the
+/// position on are at least 37 for each.
 pub fn damaged_record()
     ensures file { (key context file : List ℕ) (e : FileError) (k : ℕ)
         → RefusesFile key context file e → e ≡ FileError.Stream (Damaged k)

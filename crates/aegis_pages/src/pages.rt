@@ -317,8 +317,8 @@ impl<
     ///
     /// Returns [`PagesError::Broken`] or [`PagesError::TooLong`] before anything is changed, and otherwise
     /// [`PagesError::Read`], [`PagesError::Damaged`] or [`PagesError::OutOfMemory`]. The length is then as it was, and
-    /// so are the pages that have no byte of the part or of a gap before it. Each of the others is as before, or as it
-    /// was to be.
+    /// so are the pages that have no byte of the part or of a gap before it. No contract says what the others are: each
+    /// is as before, or as it was to be.
     pub fn write_at(&mut self, at: u64, part: &[u8]) -> Result<(), PagesError>
         ensures stored { IsStoredAs self.old self.new }
         ensures len { self.new.len ≡ (if is_ok result
@@ -354,8 +354,7 @@ impl<
     }
 
     /// Truncates the contents to `len` bytes, or fills them up to `len` with zeros, in memory. The errors, and what
-    /// they leave, are those of `write_at`. A commit leaves the bytes past a new end in the storage, sealed, and its
-    /// size as it was.
+    /// they leave, are those of `write_at`. A commit leaves the bytes past a new end in the storage, sealed.
     pub fn set_len(&mut self, len: u64) -> Result<(), PagesError>
         ensures stored { IsStoredAs self.old self.new }
         ensures len { self.new.len ≡ (if is_ok result then len else self.old.len) }

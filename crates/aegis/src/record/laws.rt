@@ -43,8 +43,8 @@ pub fn one_fault()
     ensures { (key prefix context : List ℕ) → IsOneFault (sealed key prefix context) }
 {}
 
-/// The record that [`Damaged`](crate::record::RecordError::Damaged) names lies in the bytes: they have a header, and 37
-/// bytes for this record and for each one before it.
+/// The number that [`Damaged`](crate::record::RecordError::Damaged) has is bounded by the length of the bytes: they are no
+/// fewer than a header, and 37 bytes for this record and for each one before it.
 #[tactic(auto, using(crate::proofs::Lengths::damaged_laws))]
 pub fn damaged_within()
     ensures { (key prefix context bytes : List ℕ) (k : ℕ)
