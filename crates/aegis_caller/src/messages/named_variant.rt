@@ -26,7 +26,7 @@ pub fn sealed_by_name(key: &Key, nonce: &Nonce, header: &[u8], message: &mut [u8
 pub fn mac_by_name(key: &Key, nonce: &Nonce, chunks: &[&[u8]]) -> [u8; 32]
     requires { length (joined chunks.now) ≤ MAX_AEAD_BYTES }
     ensures name { ⟦<Aegis256X2Mac<32> as HasVariant>⟧.VARIANT ≡ variant }
-    ensures mac { result ≡ mac ⟦<Aegis256X2Mac<32> as HasVariant>⟧.VARIANT 32
+    ensures is { result ≡ mac ⟦<Aegis256X2Mac<32> as HasVariant>⟧.VARIANT 32
         key.now nonce.now (joined chunks.now) }
 {
     mac_variants::<32>();
