@@ -13,7 +13,7 @@ use std::path::{Path, PathBuf};
 use std::process::Command;
 use std::rc::Rc;
 use std::sync::atomic::{AtomicUsize, Ordering::Relaxed};
-use std::{env, io};
+use std::{env, io, thread};
 
 pub const KEY: [u8; 32] = [7; 32];
 
@@ -482,7 +482,13 @@ pub fn run_as_another_user(folder: &Folder, mode: u32, test: &str, variable: &st
         command.uid(65_534).gid(65_534);
     }
     allow(&folder.path(""), mode);
-    let output = command.output().unwrap();
+    // A child that another test has just forked may still have the copy open, and then it cannot be started.
+    let output = loop {
+        match command.output() {
+            Err(error) if error.kind() == io::ErrorKind::ExecutableFileBusy => thread::yield_now(),
+            output => break output.unwrap(),
+        }
+    };
     allow(&folder.path(""), 0o755);
     let printed = String::from_utf8_lossy(&output.stdout);
     assert!(output.status.success() && printed.contains("1 passed"), "{mode:o} {printed}");
