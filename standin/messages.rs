@@ -86,7 +86,7 @@ fn hunkravy_proved_stream(v: u32, out: Out, len: usize, n: In, nlen: usize, k: I
 }
 
 fn hunkravy_proved_stream_xor_in_place(v: u32, mc: Out, mclen: usize, n: In, nlen: usize, k: In, klen: usize) {
-    check_lengths(v, nlen, klen, mclen, 0, 16)?;
+    check_keys(v, nlen, klen)?;
     xor_keystream(v, output(mc, mclen), input(n, nlen), input(k, klen));
     Ok(())
 }
