@@ -18,7 +18,7 @@ proved() {
     cat dist/PROVED.md
     echo
     echo "- Commit: $COMMIT"
-    echo "- Proved by: $(rt version 2> /dev/null || echo 'not by this machine')"
+    echo "- Prover: $(rt version 2> /dev/null || echo 'not by this machine')"
     if [ -z "${GATE_LINE-}" ] && python3 tools/proved.py check 2> /dev/null; then
         GATE_LINE=$(cat out/proved-line)
     fi
@@ -87,7 +87,8 @@ packages() {
     printf 'hunkravy (%s-1) unstable; urgency=medium\n\n  * See changelog.gz.\n\n -- %s  %s\n' "$version" \
         "$(sed -n 's/^Maintainer: //p' dist/debian/control)" "$(date -R -d "@$SOURCE_DATE_EPOCH")" > "$folder/debian/changelog"
     ship hunkravy SECURITY.md
-    ship hunkravy docs/SEALED-FILES.md
+    ship hunkravy docs/{SEALED-FILES,FORMATS}.md
+    ship libhunkravy-dev SECURITY.md
     ship libhunkravy-dev c/README.md
     ship libhunkravy-dev docs/{RANDOM-ACCESS,FORMATS}.md
     python3 tools/parts.py "$docs/hunkravy" hunkravy

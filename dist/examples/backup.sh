@@ -14,6 +14,14 @@ exec 9> "$store/backup.lock"
 flock -n 9 || { echo "backup.sh: another run uses $store" >&2; exit 1; }
 rm -f "$part" "$store"/.backup.part.hunkravy-*
 
+# A clock that is behind would make today's backup the oldest one, which is removed.
+for backup in "$store"/backup-????-??-??.sealed; do
+    if [ -e "$backup" ] && [[ $backup > $store/backup-$today.sealed ]]; then
+        echo "backup.sh: no backup today: the clock is behind $backup" >&2
+        exit 1
+    fi
+done
+
 # tar ends with status 1 if a file changed while it was read: the backup is kept. After any other failure there is none.
 archive() {
     tar -C / -c -- "${@#/}" || [ $? = 1 ]
@@ -26,9 +34,10 @@ backups=("$store"/backup-????-??-??.sealed)
 extra=$((${#backups[@]} - keep))
 if [ "$extra" -gt 0 ] && [ "$keep" -gt 0 ]; then rm "${backups[@]:0:extra}"; fi
 
-month=("$store/backup-${today%-*}"-??.sealed)
-result=0
-if [ "${#month[@]}" = 1 ]; then
+# Once a month all of them are verified, by the first run that gets here.
+month=${today%-*} result=0
+if [ "$(cat "$store/backup.checked" 2> /dev/null)" != "$month" ]; then
     for backup in "$store"/backup-????-??-??.sealed; do hunkravy check -q -k "$key" "$backup" || result=1; done
+    echo "$month" > "$store/backup.checked"
 fi
 exit "$result"

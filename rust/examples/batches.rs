@@ -1,8 +1,8 @@
 //! Writes a number to several rows of an encrypted file in one commit, so that a crash leaves all of them or none.
 //!
-//! `batches FILE` opens the file, and prints the number that its rows hold, or fails if they differ. `batches FILE write` then
-//! writes the numbers after it, until it is stopped. The files are those of the proved program `crates/example_batches`, whose
-//! journal is then `FILE.journal`.
+//! `batches FILE` opens the file, and prints the number that its rows hold, or fails if they differ. `batches FILE write`
+//! then writes the numbers after it, until it is stopped. The files are those of the proved program `example_batches` of
+//! the sources, whose journal is then `FILE.journal`.
 
 use hunkravy::raf::{Aegis256, Raf};
 use std::error::Error;

@@ -28,7 +28,7 @@ class Backup(Scene):
 
     def stored(self):
         """The days whose backups open, each to its day. Nothing else is in the folder."""
-        names = sorted(set(os.listdir("store")) - {"backup.lock"})
+        names = sorted(set(os.listdir("store")) - {"backup.lock", "backup.checked"})
         days = [re.fullmatch(r"backup-(.*)\.sealed", name)[1] for name in names]
         for day, name in zip(days, names):
             self.opens(f"store/{name}", f"{day}\n".encode())
@@ -64,8 +64,16 @@ class Backup(Scene):
         self.night("2026-04-30", 0, 0)
         pathlib.Path("store/backup-2026-04-29.sealed").write_bytes(b"damaged")
         self.night("2026-04-30", 0, 0, lacks=".")
+        # As a run leaves it that is interrupted before it has verified them.
+        pathlib.Path("store/backup-2026-05-01.sealed").write_bytes(read("store/backup-2026-04-30.sealed"))
         self.night("2026-05-02", 0, 1, "backup-2026-04-29.sealed is not a sealed file|backup-2026-04-29.sealed is truncated")
         self.night("2026-05-03", 0, 0, lacks=".")
+
+    # Otherwise the backup of the night would be the oldest one.
+    def test_a_clock_that_is_behind(self):
+        self.night("2026-04-01", 0, 0, lacks=".")
+        self.night("1970-01-01", 0, 1, ["no backup today", "the clock is behind"], KEEP="1")
+        self.assertEqual(self.stored(), ["2026-04-01"])
 
     def test_removes_old_ones(self):
         for day in range(10, 16):
@@ -73,7 +81,7 @@ class Backup(Scene):
         self.assertEqual(self.stored(), ["2026-04-13", "2026-04-14", "2026-04-15"])
         write("store/backup-of-mine.sealed", b"")
         self.night("2026-04-16", 0, 0, KEEP="1")
-        self.assertEqual(sorted(os.listdir("store")), ["backup-2026-04-16.sealed", "backup-of-mine.sealed", "backup.lock"])
+        self.assertEqual(sorted(os.listdir("store")), ["backup-2026-04-16.sealed", "backup-of-mine.sealed", "backup.checked", "backup.lock"])
 
     # The system's tar, whose archive has the file at its path.
     def test_restores(self):
