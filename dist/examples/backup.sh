@@ -4,7 +4,10 @@
 # KEY is a key file, STORE the folder of the backups, and each PATH an absolute path outside of STORE. The newest 30 backups
 # are kept, or as many as KEEP says. The first run of a month verifies all of them. The status is 0 if all went well.
 set -euo pipefail
-key=$1 store=$2 keep=${KEEP:-30}
+keep=${KEEP:-30}
+[ $# -ge 3 ] || { echo 'usage: backup.sh KEY STORE PATH..' >&2; exit 2; }
+[[ $keep =~ ^[0-9]+$ ]] || { echo "backup.sh: KEEP=$keep is no number" >&2; exit 2; }
+key=$1 store=$2
 shift 2
 today=$(date +%F)
 part=$store/backup.part

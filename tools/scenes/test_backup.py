@@ -46,8 +46,10 @@ class Backup(Scene):
         self.assertEqual(self.stored(), ["2026-03-30", "2026-04-01", "2026-04-02"])
         self.assertEqual(os.stat("store/backup-2026-04-02.sealed").st_mode & 0o777, 0o600)
 
-    # A key that cannot be read, a second run of a day, and one beside another.
+    # Wrong words, a key that cannot be read, a second run of a day, and one beside another.
     def test_failures(self):
+        self.tool(2, ["bash", SCRIPT, "key", "store"], "usage: backup.sh KEY STORE PATH..")
+        self.night("2026-04-01", 0, 2, "KEEP=some is no number", KEEP="some")
         self.night("2026-04-01", 0, 0, lacks=".")
         os.rename("key", "gone")
         self.night("2026-04-01", 0, 1, ["the key cannot be read", "no backup today"])
