@@ -71,14 +71,14 @@ HUNKRAVY_MUST_USE int hunkravy_file_create(hunkravy_file **file, const char *pat
 
 /*
  * Opens and locks the file at a path, and completes a commit that was interrupted, or discards all of it. After an error
- * `*file` is null. After any of the codes above nothing has changed, except that HUNKRAVY_NO_FILE may follow a journal that
- * was made with the key, and that makes no header; after an error of the system open it again.
+ * `*file` is null. After any of the codes above nothing has changed. Exception: HUNKRAVY_NO_FILE may follow a journal that
+ * was made with the key and has no header in it. After an error of the system, open the file again.
  */
 HUNKRAVY_MUST_USE int hunkravy_file_open(hunkravy_file **file, const char *path, uint32_t variant, const uint8_t *k,
     size_t klen) HUNKRAVY_NONNULL(1, 2);
 
 /*
- * Commits the changes, and frees the file whatever happens. A process that did not open the file only frees it. A null
+ * Commits the changes, and frees the file, also after an error. A process that did not open the file only frees it. A null
  * pointer is no file, and the result is HUNKRAVY_OK.
  *
  * Nothing is committed, and the result is the reason's code, if a batch is open or if the file is broken. The same holds
@@ -106,7 +106,7 @@ HUNKRAVY_MUST_USE int hunkravy_file_read(hunkravy_file *file, uint64_t offset, v
 HUNKRAVY_MUST_USE int hunkravy_file_write(hunkravy_file *file, uint64_t offset, const void *data, size_t datalen)
     HUNKRAVY_NONNULL(1);
 
-/* Truncates the contents, or extends them with zeros, as a write does. The file itself does not become shorter. */
+/* Truncates the contents, or extends them with zeros. The file itself does not become shorter. */
 HUNKRAVY_MUST_USE int hunkravy_file_truncate(hunkravy_file *file, uint64_t size) HUNKRAVY_NONNULL(1);
 
 /*
