@@ -222,8 +222,7 @@ fn absorb_zeros<S: LaneState>(state: &mut S)
 // keystream of `before`, which are the lanes before that, and the lanes take in the bytes that `pass` selects.
 //
 // Once the block is in the buffer, only locals are read. So LLVM need not know that a source lies apart from the
-// buffer: the block stays in registers, and another buffer costs no more than encryption in place. The rows are no
-// longer needed after their update.
+// buffer, and keeps the block in registers. The rows are no longer needed after their update.
 #[inline(always)]
 fn pass_block<S: LaneState>(
     before: S,
