@@ -1,7 +1,8 @@
 """docs/ARCHITECTURE.md lists each file with a definition that a public contract reaches, and no other, each after those that
 it uses, with its number of lines; README.md has their sums. In these files a public contract reaches each definition: what
 only bodies and proofs use is in `Private.antt`. No definition takes a number from the code: none imports a constant. A
-number of the formats stands in the definition that names it, and nowhere else. No two files define one name."""
+number of the formats stands in the definition that names it, and nowhere else. No two files define one name, and no source
+or proof imports one that a file has not."""
 
 import pathlib
 import re
@@ -34,6 +35,7 @@ CONTRACTS = re.compile(
 )
 DEFINITION = re.compile(r"^(?: *(?:abbrev|unfoldable) pub|pub(?: record| data)?) (\S+).*?(?=^\s*$|\Z)", re.M | re.S)
 IMPORT = re.compile(r"^ *(?:ghost |pub )*use Rattle\.(\w+)\.specs\.(\w+)(?:\.\{([^}]*)\}| as (\w+)|);?$", re.M)
+PATH = re.compile(r"\bcrate::specs::(\w+)::(\w+)")
 CONSTANTS = re.compile(r"^ *(?:pub )?use Rattle\.[\w.]+\.specs\.declared\.(?:\w+\.)*TheConstants\b", re.M)
 NUMBERS = re.compile(r"(?<![\w^])(?:24|32|33|37|512|528|560)(?!\w)")
 ROW = re.compile(r"^\|[^|]*\| `(\w+)/specs/(\w+)\.antt` \| *(\d+) \|", re.M)
@@ -53,6 +55,7 @@ class File:
     def __init__(self, path):
         self.path, self.text = path, path.read_text("utf-8")
         self.definitions = {found[1]: found[0] for found in DEFINITION.finditer(self.text)}
+        self.words = words(self.text)
 
     def __str__(self):
         return str(self.path)
@@ -139,6 +142,15 @@ def name_faults():
     yield from (f"{' and '.join(files)} define {name}" for name, files in places.items() if len(files) > 1)
 
 
+def import_faults():
+    """Yields each name that a source, a definition or a proof takes from a file of definitions that has no such word."""
+    for path in sorted([*CRATES.glob("*/src/**/*.rt"), *CRATES.glob("*/specs/*.antt"), *CRATES.glob("*/proofs/**/*.antt")]):
+        text, own = path.read_text("utf-8"), CRATES / path.parts[1] / "specs"
+        taken = [(file, name.split()[0]) for file, names, _ in imports(text) for name in names or () if name.strip()]
+        taken += [(FILES.get(own / f"{module}.antt"), name) for module, name in PATH.findall(text)]
+        yield from (f"{path}: {file} has no {name}" for file, name in taken if file and name not in file.words)
+
+
 def faults():
     page, cites = PAGE.read_text("utf-8"), reached()
     wanted = {file for file, _ in cites}
@@ -146,6 +158,7 @@ def faults():
     yield from list_faults(page, wanted)
     yield from definition_faults(cites, wanted)
     yield from name_faults()
+    yield from import_faults()
 
 
 sys.exit("\n".join(f"{PAGE}: {fault}" for fault in faults()) or None)
