@@ -102,7 +102,7 @@ pub fn info<'a>(rt: &HostRuntime, paths: Transfer<'a>) -> Result<(), Failure<'a>
         return Ok(());
     }
     printed(println!(rt;
-        "{} records, {} bytes of contents, not verified",
-        seen.records, seen.text_bytes
+        "{} {}, {} bytes of contents, not verified",
+        seen.records, if seen.records == 1 { "record" } else { "records" }, seen.text_bytes
     ))
 }
