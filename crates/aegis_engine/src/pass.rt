@@ -240,8 +240,8 @@ fn write_xored<S: LaneState>(before: S, block: &RateBlock, buffer: &mut [u8], at
 // keystream of `before`, which are the lanes before that, and the lanes take in the bytes that `pass` selects.
 //
 // Only the copy of the block is read. So LLVM need not know that a source lies apart from the buffer, and keeps the
-// block in registers. The rows are no longer needed after their update, so the block is written before it. A block of 16
-// bytes of another buffer is written after it: else x86-64-v2 has too few registers for the constants of the round.
+// block in registers. The rows are no longer needed after their update, so the block is written before it. A block of
+// 16 bytes of another buffer is written after it: else x86-64-v2 has too few registers for the constants of the round.
 #[inline(always)]
 fn pass_block<S: LaneState>(
     before: S,
