@@ -1,5 +1,5 @@
 -- The lanes take in a local, whose bytes are those of the block before the xor, or after it.
-use Rattle.std.proofs.Common.{◌≡◌, ◌∙◌, ap, ℕ, ◌+◌, List, arith}
+use Rattle.std.proofs.Common.{◌≡◌, ◌∙◌, ap, ◌+◌, arith}
 use Rattle.aegis_base.specs.Lane.{update}
 use Rattle.aegis_base.proofs.MessageFacts.{share_at-same}
 use Rattle.aegis_engine.specs.Pass.{given}
