@@ -221,7 +221,12 @@ fn absorb_zeros<S: LaneState>(state: &mut S)
 // Writes a block, XORed with the keystream of `before`, to the rate block of a buffer that begins at place `at`, and
 // returns it.
 #[inline(always)]
-fn write_xored<S: LaneState>(before: S, block: &RateBlock, buffer: &mut [u8], at: usize) -> RateBlock
+fn write_xored<S: LaneState>(
+    before: S,
+    block: &RateBlock,
+    buffer: &mut [u8],
+    at: usize,
+) -> RateBlock
     requires { at + S.RATE ≤ length buffer.old }
     ensures written { (k : ℕ) → k < S.RATE
         → slice_index buffer.new (at + k)

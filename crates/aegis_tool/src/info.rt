@@ -101,8 +101,12 @@ pub fn info<'a>(rt: &HostRuntime, paths: Transfer<'a>) -> Result<(), Failure<'a>
     if paths.quiet {
         return Ok(());
     }
+    let records = match seen.records {
+        1 => "record",
+        _ => "records",
+    };
     printed(println!(rt;
         "{} {}, {} bytes of contents, not verified",
-        seen.records, if seen.records == 1 { "record" } else { "records" }, seen.text_bytes
+        seen.records, records, seen.text_bytes
     ))
 }
