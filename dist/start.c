@@ -20,7 +20,7 @@ int main(int count, char **arguments, char **environment)
     }
     const int status = (level == 3 ? main_v3 : main_v2)(count, arguments, environment);
     if (status == 0 && count == 2 && strcmp(arguments[1], "--version") == 0) {
-        return printf("built for x86-64-v%d\nproved by %s\n", level, KIT) < 0 || fflush(stdout) != 0;
+        return printf("built for x86-64-v%d\ncipher proved by %s\n", level, KIT) < 0 || fflush(stdout) != 0;
     }
     return status;
 }

@@ -2,11 +2,12 @@
 # Makes today's sealed backup of files and folders: backup.sh KEY STORE PATH..
 #
 # KEY is a key file, STORE the folder of the backups, and each PATH an absolute path outside of STORE. The newest 30 backups
-# are kept, or as many as KEEP says. The first run of a month verifies all of them. The status is 0 if all went well.
+# are kept, or as many as KEEP says, or all with KEEP=0. The first run of a month verifies all of them. The status is 0 if
+# all went well.
 set -euo pipefail
 keep=${KEEP:-30}
 [ $# -ge 3 ] || { echo 'usage: backup.sh KEY STORE PATH..' >&2; exit 2; }
-[[ $keep =~ ^[0-9]+$ ]] || { echo "backup.sh: KEEP=$keep is no number" >&2; exit 2; }
+[[ $keep =~ ^(0|[1-9][0-9]*)$ ]] || { echo "backup.sh: KEEP must be a number such as 30, not $keep" >&2; exit 2; }
 key=$1 store=$2
 shift 2
 today=$(date +%F)
@@ -37,10 +38,10 @@ backups=("$store"/backup-????-??-??.sealed)
 extra=$((${#backups[@]} - keep))
 if [ "$extra" -gt 0 ] && [ "$keep" -gt 0 ]; then rm "${backups[@]:0:extra}"; fi
 
-# Once a month all of them are verified, by the first run that gets here.
+# Once a month all of them are verified, by the first run that gets here, and by later ones until none is damaged.
 month=${today%-*} result=0
 if [ "$(cat "$store/backup.checked" 2> /dev/null)" != "$month" ]; then
     for backup in "$store"/backup-????-??-??.sealed; do hunkravy check -q -k "$key" "$backup" || result=1; done
-    echo "$month" > "$store/backup.checked"
+    if [ "$result" = 0 ]; then echo "$month" > "$store/backup.checked"; fi
 fi
 exit "$result"

@@ -49,7 +49,8 @@ class Backup(Scene):
     # Wrong words, a key that cannot be read, a second run of a day, and one beside another.
     def test_failures(self):
         self.tool(2, ["bash", SCRIPT, "key", "store"], "usage: backup.sh KEY STORE PATH..")
-        self.night("2026-04-01", 0, 2, "KEEP=some is no number", KEEP="some")
+        for keep in "some", "-1", "010", "08":
+            self.night("2026-04-01", 0, 2, f"KEEP must be a number such as 30, not {keep}", KEEP=keep)
         self.night("2026-04-01", 0, 0, lacks=".")
         os.rename("key", "gone")
         self.night("2026-04-01", 0, 1, ["the key cannot be read", "no backup today"])
@@ -60,7 +61,7 @@ class Backup(Scene):
             f"PATH=$PWD/bin:$PATH TODAY=2026-04-02 bash {SCRIPT} key store /small; [ $? = 1 ]", "another run uses store")
         self.assertEqual(self.stored(), ["2026-04-01"])
 
-    # The first night of a month finds what is damaged, and only that night.
+    # The first night of a month finds what is damaged, and so does each night until it is gone.
     def test_checks_each_month(self):
         self.night("2026-04-29", 0, 0)
         self.night("2026-04-30", 0, 0)
@@ -68,8 +69,12 @@ class Backup(Scene):
         self.night("2026-04-30", 0, 0, lacks=".")
         # As a run leaves it that is interrupted before it has verified them.
         pathlib.Path("store/backup-2026-05-01.sealed").write_bytes(read("store/backup-2026-04-30.sealed"))
-        self.night("2026-05-02", 0, 1, "backup-2026-04-29.sealed is not a sealed file|backup-2026-04-29.sealed is truncated")
-        self.night("2026-05-03", 0, 0, lacks=".")
+        for day in "2026-05-02", "2026-05-03":
+            self.night(day, 0, 1, "backup-2026-04-29.sealed is not a sealed file|backup-2026-04-29.sealed is truncated")
+        os.remove("store/backup-2026-04-29.sealed")
+        self.night("2026-05-04", 0, 0, lacks=".")
+        pathlib.Path("store/backup-2026-05-02.sealed").write_bytes(b"damaged")
+        self.night("2026-05-05", 0, 0, lacks=".")
 
     # Otherwise the backup of the night would be the oldest one.
     def test_a_clock_that_is_behind(self):

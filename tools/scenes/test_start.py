@@ -19,7 +19,7 @@ def level_here():
 
 
 def built_for(level):
-    return rf"^hunkravy \S+\nbuilt for {level}\nproved by "
+    return rf"^hunkravy \S+\nbuilt for {level}\ncipher proved by "
 
 
 class Start(Scene):

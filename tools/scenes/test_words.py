@@ -12,9 +12,9 @@ MANUAL = ROOT / "crates/hunkravy/manual"
 
 class Words(Scene):
     def test_help_and_version(self):
-        self.tool(0, "--version", [f"^hunkravy {re.escape(VERSION)}$", "proved by rattle-kit"])
+        self.tool(0, "--version", [f"^hunkravy {re.escape(VERSION)}$", "cipher proved by rattle-kit"])
         if shutil.which("rt"):
-            self.shell(0, '$TOOL --version | grep -xF "proved by $(rt version)"')
+            self.shell(0, '$TOOL --version | grep -xF "cipher proved by $(rt version)"')
         os.symlink(TOOL, "\033[31m")
         self.tool(0, ["./\033[31m", "--help"], "Exit status", "\033")
 
