@@ -218,35 +218,11 @@ fn absorb_zeros<S: LaneState>(state: &mut S)
     state.absorb(&ZEROS, 0);
 }
 
-// Writes a block, XORed with the keystream of `before`, to the rate block of a buffer that begins at place `at`, and
-// returns it.
-#[inline(always)]
-fn write_xored<S: LaneState>(
-    before: S,
-    block: &RateBlock,
-    buffer: &mut [u8],
-    at: usize,
-) -> RateBlock
-    requires { at + S.RATE ≤ length buffer.old }
-    ensures written { (k : ℕ) → k < S.RATE
-        → slice_index buffer.new (at + k)
-        ≡ bit_xor (slice_index block.now k) (keystream_byte S.VARIANT (S.lane before) k) }
-    ensures result { (k : ℕ) → k < S.RATE → slice_index result k ≡ slice_index buffer.new (at + k) }
-    ensures below { IsSameBefore at buffer.old buffer.new }
-    ensures above { IsSameFrom (at + S.RATE) buffer.old buffer.new }
-{
-    let mut passed = *block;
-    xor_block(before, &mut passed, 0);
-    copy_part(buffer, at, &passed, 0, S::RATE);
-    passed
-}
-
 // Updates the lanes by one rate block of a buffer: it is copied from `source` if there is one, and xored with the
 // keystream of `before`, which are the lanes before that, and the lanes take in the bytes that `pass` selects.
 //
-// Only the copy of the block is read. So LLVM need not know that a source lies apart from the buffer, and keeps the
-// block in registers. The rows are no longer needed after their update, so the block is written before it. A block of
-// 16 bytes of another buffer is written after it: else x86-64-v2 has too few registers for the constants of the round.
+// Once the block is in the buffer, only locals are read. So LLVM need not know that a source lies apart from the
+// buffer, and keeps the block in registers. The rows are no longer needed after their update.
 #[inline(always)]
 fn pass_block<S: LaneState>(
     before: S,
@@ -272,23 +248,13 @@ fn pass_block<S: LaneState>(
     ensures updates { S.updates state.new ≡ S.updates state.old + 1 }
 {
     let block = copied_given::<S>(source, buffer, at);
+    let mut passed = block;
+    xor_block(before, &mut passed, 0);
+    copy_part(buffer, at, &passed, 0, S::RATE);
     match pass {
-        Pass::Seal if S::RATE == 16 && source.is_some() => {
-            state.absorb(&block, 0);
-            write_xored(before, &block, buffer, at);
-        }
-        Pass::Seal => {
-            write_xored(before, &block, buffer, at);
-            state.absorb(&block, 0);
-        }
-        Pass::Open => {
-            let passed = write_xored(before, &block, buffer, at);
-            state.absorb(&passed, 0);
-        }
-        Pass::Keystream => {
-            write_xored(before, &block, buffer, at);
-            absorb_zeros(state);
-        }
+        Pass::Seal => state.absorb(&block, 0),
+        Pass::Open => state.absorb(&passed, 0),
+        Pass::Keystream => absorb_zeros(state),
     }
 }
 

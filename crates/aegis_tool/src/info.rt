@@ -101,12 +101,8 @@ pub fn info<'a>(rt: &HostRuntime, paths: Transfer<'a>) -> Result<(), Failure<'a>
     if paths.quiet {
         return Ok(());
     }
-    let records = match seen.records {
-        1 => "record",
-        _ => "records",
-    };
     printed(println!(rt;
-        "{} {}, {} bytes of contents, not verified",
-        seen.records, records, seen.text_bytes
+        "{} records, {} bytes of contents, not verified",
+        seen.records, seen.text_bytes
     ))
 }

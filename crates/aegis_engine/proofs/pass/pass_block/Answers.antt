@@ -1,5 +1,5 @@
 -- The lanes take in a local, whose bytes are those of the block before the xor, or after it.
-use Rattle.std.proofs.Common.{◌≡◌, ◌∙◌, ap, ◌+◌, arith}
+use Rattle.std.proofs.Common.{◌≡◌, ◌∙◌, sym, ap, ℕ, ◌+◌, List, arith}
 use Rattle.aegis_base.specs.Lane.{update}
 use Rattle.aegis_base.proofs.MessageFacts.{share_at-same}
 use Rattle.aegis_engine.specs.Pass.{given}
@@ -12,16 +12,9 @@ returns-in-Seal-clause-lanes g c j inside =
     (λ k low. let here : 0 + k ≡ k = omega arith in rw here (c.copied_given-block.ensures k (rw g.met.S.LaneState.rate_is low))) in
     rw c.in-Seal.is (c.absorb.ensures.lanes j inside ∙ ap (update L.VARIANT.family (L.lane c.args.state.now j)) same)
 
-pub returns-in-Seal-2-clause-lanes : goal.returns-in-Seal-2-clause-lanes
-returns-in-Seal-2-clause-lanes g c j inside =
-    let L = g.S.LaneState in
-    let same = share_at-same L.VARIANT j c.copied_given-block.result (given c.args.source c.args.buffer.now) 0 c.args.at inside
-    (λ k low. let here : 0 + k ≡ k = omega arith in rw here (c.copied_given-block.ensures k (rw g.met.S.LaneState.rate_is low))) in
-    rw c.in-Seal-2.is (c.absorb-in-Seal-2.ensures.lanes j inside ∙ ap (update L.VARIANT.family (L.lane c.args.state.now j)) same)
-
 pub returns-in-Open-clause-lanes : goal.returns-in-Open-clause-lanes
 returns-in-Open-clause-lanes g c j inside =
     let L = g.S.LaneState in
-    let same = share_at-same L.VARIANT j c.write_xored-passed.result c.write_xored-passed.new.buffer 0 c.args.at inside
-    (λ k low. let here : 0 + k ≡ k = omega arith in rw here (c.write_xored-passed.ensures.result k (rw g.met.S.LaneState.rate_is low))) in
+    let same = share_at-same L.VARIANT j c.xor_block.new.buffer c.copy_part.new.target 0 c.args.at inside
+    (λ k low. sym (c.copy_part.ensures.written k (rw (c.RATE.ensures ∙ g.met.S.LaneState.rate_is) low))) in
     rw c.in-Open.is (c.absorb-in-Open.ensures.lanes j inside ∙ ap (update L.VARIANT.family (L.lane c.args.state.now j)) same)
