@@ -190,8 +190,8 @@ HUNKRAVY_MUST_USE int hunkravy_encrypt_combined(uint32_t variant, uint8_t *c, co
 
 /*
  * Decrypts the `clen` bytes at `c`, a ciphertext and its tag of `maclen` bytes. Writes the message of `clen - maclen`
- * bytes to `m`, which may be the same pointer. After HUNKRAVY_INVALID_TAG each byte at `m` is 0xaa. If `clen` is less
- * than `maclen`, returns HUNKRAVY_INVALID_TAG and writes nothing.
+ * bytes to `m`, which may be the same pointer. After HUNKRAVY_INVALID_TAG each byte at `m` is 0xaa. If the lengths of the
+ * key, the nonce and the tag are right and `clen` is less than `maclen`, returns HUNKRAVY_INVALID_TAG and writes nothing.
  */
 HUNKRAVY_MUST_USE int hunkravy_decrypt_combined(uint32_t variant, uint8_t *m, const uint8_t *c, size_t clen,
     const uint8_t *ad, size_t adlen, const uint8_t *npub, size_t npublen, const uint8_t *k, size_t klen,
@@ -347,7 +347,7 @@ const char *hunkravy_version(void);
 
 /*
  * Returns the processor level of the build that runs: 3 or 2 for x86-64-v3 or x86-64-v2, and 1 on aarch64. It returns 0
- * on a processor that no build runs on, such as one below x86-64-v2. There each function that computes ends the program
+ * on a processor that no build runs on, such as one below x86-64-v2. There a function that computes may end the program
  * with SIGILL.
  */
 int hunkravy_level(void);

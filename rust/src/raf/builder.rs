@@ -128,7 +128,8 @@ impl<A: Algorithm, R: RafRng, J: JournalChoice> RafBuilder<A, R, J> {
     /// # Errors
     ///
     /// Those of [`create`](Self::create). After an error that changes nothing, an old file is as it was. After any error there is
-    /// no new file, unless another program has opened it meanwhile, or given it another name.
+    /// no new file, unless another program has opened it meanwhile, or given it another name, or the path is a link to a file
+    /// that was missing.
     pub fn create_file(mut self, path: impl AsRef<Path>, key: &A::Key) -> Result<Raf<A, FileIo, R, J::Journal>> {
         let path = path.as_ref();
         let draws = draw::<A>(&mut self.rng, self.chunk_size)?;
