@@ -223,10 +223,7 @@ static int open_in(File *self, PyObject *given, PyObject *named, bool is_new)
             is_new ? of_create : of_open, PyUnicode_FSConverter, &path, &key, &cipher, &checks, &size)) {
         return -1;
     }
-    bool is_used = self->file != NULL || !PyThread_acquire_lock(self->lock, NOWAIT_LOCK);
-    if (is_used) {
-        PyErr_SetString(PyExc_RuntimeError, "the file is open already, or a thread was using this object at a fork");
-    } else if (cipher != NULL) {
+    if (cipher != NULL) {
         variant = variant_of(cipher);
     }
     if (!PyErr_Occurred() && size != Py_None && natural(size, &page_size) &&
@@ -234,7 +231,9 @@ static int open_in(File *self, PyObject *given, PyObject *named, bool is_new)
         /* 0 is the default for None alone, and no larger number is a page size either. */
         page_size = 1;
     }
-    if (!PyErr_Occurred()) {
+    /* No code of the caller runs from here on, such as an attribute's: it could wait for this lock. */
+    bool is_free = !PyErr_Occurred() && self->file == NULL && PyThread_acquire_lock(self->lock, NOWAIT_LOCK);
+    if (is_free) {
         hunkravy_file *file;
         const char *name = PyBytes_AsString(path);
         PyThreadState *released = PyEval_SaveThread();
@@ -251,9 +250,9 @@ static int open_in(File *self, PyObject *given, PyObject *named, bool is_new)
         } else {
             (void)result_of(code, 0, path, NULL);
         }
-    }
-    if (!is_used) {
         PyThread_release_lock(self->lock);
+    } else if (!PyErr_Occurred()) {
+        PyErr_SetString(PyExc_RuntimeError, "the file is open already, or a thread was using this object at a fork");
     }
     PyBuffer_Release(&key);
     Py_DECREF(path);

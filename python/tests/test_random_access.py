@@ -332,6 +332,25 @@ class Files(unittest.TestCase):
             gc.collect()
             self.assertEqual(contents(self.path), b"")
 
+    def test_a_cipher_that_closes_the_file(self) -> None:
+        """An attribute of a cipher may run any code, also on the file that is being opened."""
+        RandomAccessFile.create(self.path, KEY).close()
+        file: Any = RandomAccessFile.__new__(RandomAccessFile)
+
+        class Closing:
+            @property
+            def _VARIANT(self) -> int:
+                file.close()
+                return Aegis256._VARIANT
+
+        words = {"cipher": Closing(), "check_same_thread": False}
+        thread = threading.Thread(target=file.__init__, args=(self.path, KEY), kwargs=words, daemon=True)
+        thread.start()
+        thread.join(20)
+        self.assertFalse(thread.is_alive())
+        self.assertEqual(file.read_at(0, 1), b"")
+        file.close()
+
     def test_locks_and_moves(self) -> None:
         file = RandomAccessFile.create(self.path, KEY)
         self.assertCause("locked", RandomAccessFile, self.path, KEY)
