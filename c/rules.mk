@@ -262,7 +262,8 @@ check-sodium: $(OUT)/both/libhunkravy.a
 # ---- Installing
 
 # Installs the headers, the libraries, the examples, the manual page, and the files that pkg-config and CMake read, which
-# find the others from where they lie themselves. In /usr pkg-config's file names the folders, so that no option is printed for those of the system.
+# find the others from where they lie themselves. In /usr pkg-config's file names the folders, so that no option is
+# printed for those of the system.
 EXAMPLES_FOLDER = $(PREFIX)/share/doc/hunkravy/examples
 LIBRARIES = $(PREFIX)/lib
 CMAKE_FOLDER = $(LIBRARIES)/cmake/hunkravy

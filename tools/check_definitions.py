@@ -2,7 +2,7 @@
 it uses, with its number of lines; README.md has their sums. In these files a public contract reaches each definition: what
 only bodies and proofs use is in `Private.antt`. No definition takes a number from the code: none imports a constant. A
 number of the formats stands in the definition that names it, and nowhere else. No two files define one name, and no source
-or proof imports one that a file has not."""
+or proof imports a name that its file lacks."""
 
 import pathlib
 import re

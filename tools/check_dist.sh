@@ -198,7 +198,7 @@ fi
 # Programs that are built over the shared library depend on this version of it.
 [ "$(dpkg-deb -I "$dist/libhunkravy0_$version-1_amd64.deb" shlibs)" = "libhunkravy 0 libhunkravy0 (>= $version)" ] ||
     fail 'programs depend on another version of the library'
-dpkg-deb -I "$dist/libhunkravy0_$version-1_amd64.deb" symbols | grep -qx ' hunkravy_encrypt@HUNKRAVY_0 0\.1\.0' ||
+dpkg-deb -I "$dist/libhunkravy0_$version-1_amd64.deb" symbols | grep -x ' hunkravy_encrypt@HUNKRAVY_0 0\.1\.0' > /dev/null ||
     fail 'the package of the library has no file of symbols'
 
 # The debug symbols are those of the shared library, and name sources as the repository has them.

@@ -39,8 +39,8 @@
  * - HUNKRAVY_DAMAGED_PAGE: a page is not authentic. hunkravy_file_damaged_page has its number.
  * - HUNKRAVY_FILE_TOO_LONG: the contents would be longer than 2^60 bytes, or no more commits are possible.
  * - HUNKRAVY_FILE_LOCKED: the file is open already, here or in another process. After a fork it is open in the process
- *   that opened it; if that one ends, it stays locked until the child ends. A child that clone has made is only kept from
- *   commits, by its number.
+ *   that opened it. If that one ends, the file stays locked until the child ends too. A child that clone has made is only
+ *   kept from commits, by its number.
  * - HUNKRAVY_FILE_MOVED: the file was renamed, removed or replaced, or has several hard links: its journal would not be
  *   found.
  * - HUNKRAVY_FILE_BROKEN: an earlier commit has failed, and may be in the file in part. Open the file again.

@@ -26,6 +26,7 @@ class Metadata(unittest.TestCase):
             ("Name", "hunkravy"),
             ("Version", hunkravy.__version__),
             ("Requires-Python", ">=3.11"),
+            ("License", "MIT; NOTICES has the terms of the parts inside"),
             ("License-File", "LICENSE"),
         ):
             self.assertEqual(self.package.metadata[name], value)
