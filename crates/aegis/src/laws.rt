@@ -57,22 +57,18 @@ impl<S: LaneState, const KEY_BYTES: usize, const TAG_BYTES: usize> HasVariant
     ghost VARIANT = { S.VARIANT };
 }
 
-/// The variant of each cipher is the one of its name.
+/// The variant of each cipher, and of its MAC, is the one of its name.
 pub fn variants<const TAG_BYTES: usize>()
-    ensures aegis128l { ⟦<Aegis128L<TAG_BYTES> as HasVariant>⟧.VARIANT ≡ base.Aegis128L }
-    ensures aegis128x2 { ⟦<Aegis128X2<TAG_BYTES> as HasVariant>⟧.VARIANT ≡ base.Aegis128X2 }
-    ensures aegis128x4 { ⟦<Aegis128X4<TAG_BYTES> as HasVariant>⟧.VARIANT ≡ base.Aegis128X4 }
-    ensures aegis256 { ⟦<Aegis256<TAG_BYTES> as HasVariant>⟧.VARIANT ≡ base.Aegis256 }
-    ensures aegis256x2 { ⟦<Aegis256X2<TAG_BYTES> as HasVariant>⟧.VARIANT ≡ base.Aegis256X2 }
-    ensures aegis256x4 { ⟦<Aegis256X4<TAG_BYTES> as HasVariant>⟧.VARIANT ≡ base.Aegis256X4 }
-{}
-
-/// The variant of each MAC is the one of its name.
-pub fn mac_variants<const TAG_BYTES: usize>()
-    ensures aegis128l { ⟦<Aegis128LMac<TAG_BYTES> as HasVariant>⟧.VARIANT ≡ base.Aegis128L }
-    ensures aegis128x2 { ⟦<Aegis128X2Mac<TAG_BYTES> as HasVariant>⟧.VARIANT ≡ base.Aegis128X2 }
-    ensures aegis128x4 { ⟦<Aegis128X4Mac<TAG_BYTES> as HasVariant>⟧.VARIANT ≡ base.Aegis128X4 }
-    ensures aegis256 { ⟦<Aegis256Mac<TAG_BYTES> as HasVariant>⟧.VARIANT ≡ base.Aegis256 }
-    ensures aegis256x2 { ⟦<Aegis256X2Mac<TAG_BYTES> as HasVariant>⟧.VARIANT ≡ base.Aegis256X2 }
-    ensures aegis256x4 { ⟦<Aegis256X4Mac<TAG_BYTES> as HasVariant>⟧.VARIANT ≡ base.Aegis256X4 }
+    ensures aegis128l { (⟦<Aegis128L<TAG_BYTES> as HasVariant>⟧.VARIANT ≡ base.Aegis128L)
+        × (⟦<Aegis128LMac<TAG_BYTES> as HasVariant>⟧.VARIANT ≡ base.Aegis128L) }
+    ensures aegis128x2 { (⟦<Aegis128X2<TAG_BYTES> as HasVariant>⟧.VARIANT ≡ base.Aegis128X2)
+        × (⟦<Aegis128X2Mac<TAG_BYTES> as HasVariant>⟧.VARIANT ≡ base.Aegis128X2) }
+    ensures aegis128x4 { (⟦<Aegis128X4<TAG_BYTES> as HasVariant>⟧.VARIANT ≡ base.Aegis128X4)
+        × (⟦<Aegis128X4Mac<TAG_BYTES> as HasVariant>⟧.VARIANT ≡ base.Aegis128X4) }
+    ensures aegis256 { (⟦<Aegis256<TAG_BYTES> as HasVariant>⟧.VARIANT ≡ base.Aegis256)
+        × (⟦<Aegis256Mac<TAG_BYTES> as HasVariant>⟧.VARIANT ≡ base.Aegis256) }
+    ensures aegis256x2 { (⟦<Aegis256X2<TAG_BYTES> as HasVariant>⟧.VARIANT ≡ base.Aegis256X2)
+        × (⟦<Aegis256X2Mac<TAG_BYTES> as HasVariant>⟧.VARIANT ≡ base.Aegis256X2) }
+    ensures aegis256x4 { (⟦<Aegis256X4<TAG_BYTES> as HasVariant>⟧.VARIANT ≡ base.Aegis256X4)
+        × (⟦<Aegis256X4Mac<TAG_BYTES> as HasVariant>⟧.VARIANT ≡ base.Aegis256X4) }
 {}

@@ -8,7 +8,7 @@ ghost use Rattle.aegis_base.specs.Variant.{Aegis256X2 as variant};
 
 use aegis::MAX_AEAD_BYTES;
 use aegis::aegis256x2::{Aegis256X2, Aegis256X2Mac, Key, Nonce};
-use aegis::laws::{HasVariant, mac_variants, variants};
+use aegis::laws::{HasVariant, variants};
 
 /// Encrypts with `Aegis256X2`, whose variant is that of its name.
 pub fn sealed_by_name(key: &Key, nonce: &Nonce, header: &[u8], message: &mut [u8]) -> [u8; 32]
@@ -29,6 +29,6 @@ pub fn mac_by_name(key: &Key, nonce: &Nonce, chunks: &[&[u8]]) -> [u8; 32]
     ensures is { result ≡ mac ⟦<Aegis256X2Mac<32> as HasVariant>⟧.VARIANT 32
         key.now nonce.now (joined chunks.now) }
 {
-    mac_variants::<32>();
+    variants::<32>();
     Aegis256X2Mac::new_with_nonce(key, nonce).finalize_chunks(chunks)
 }
