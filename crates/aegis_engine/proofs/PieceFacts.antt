@@ -1,7 +1,6 @@
 -- A pass in pieces: one more piece, and all of them.
 use Rattle.std.proofs.Common.{◌≡◌, ◌∙◌, sym, ap, subst, ℕ, ◌+◌, List, [], ◌++◌, length, append_assoc, arith}
 use Rattle.std.proofs.lemmas.List.{append-nil, length-append}
-use Rattle.aegis_aes.specs.Private.{IsSameBefore, IsSameFrom}
 use Rattle.aegis_aes.specs.Block.{bytes_at}
 use Rattle.aegis_aes.proofs.Places.{length-bytes_at}
 use Rattle.aegis_base.specs.Variant.{Variant}

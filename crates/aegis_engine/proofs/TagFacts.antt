@@ -1,5 +1,5 @@
 -- Whether bytes differ, by the xor and the or of their bits.
-use Rattle.std.proofs.Common.{◌≡◌, ◌⊎◌, ℕ, ◌+◌, ◌-◌, ◌*◌, ◌/◌, ◌<◌, ◌≤◌, List, ◌++◌, length, bit_or, bit_xor, refl, arith, inl, inr}
+use Rattle.std.proofs.Common.{◌≡◌, ◌⊎◌, ℕ, ◌-◌, ◌*◌, ◌/◌, ◌<◌, ◌≤◌, List, ◌++◌, length, bit_or, bit_xor, refl, arith, inl, inr}
 use Rattle.std.proofs.lemmas.List.{places, same_lists}
 use borrow.Rule.Slice.PartMut.{put_mid}
 use Rattle.std.proofs.lemmas.Nat.{and_le_l, and_le_r}

@@ -10,7 +10,7 @@ use Rattle.aegis_base.specs.declared.error.TheConstants.{MAX_AEAD_BYTES}
 use Rattle.aegis.specs.declared.record.error.RecordError.{RecordError}
 use Rattle.aegis.specs.declared.record.error.RecordError.TheVariants as errors
 use Rattle.aegis.specs.declared.record.position.RecordPosition.{RecordPosition}
-use Rattle.aegis.specs.RecordResults.{AreRecordsOfSomeVersion, Begun, Progress, progress_after, last_flag, progress_at, record_of, sealing_in, start_of}
+use Rattle.aegis.specs.RecordResults.{AreRecordsOfSomeVersion, Begun, Progress, last_flag, progress_at, record_of, sealing_in, start_of}
 use Rattle.aegis.specs.RecordStream.{IsFault, IsFaultAt, Sealing, frames, position_after, sealed, start_at}
 use Rattle.aegis.proofs.Frames.{one_fault}
 use Rattle.aegis.proofs.Sealed.{sealed-is}

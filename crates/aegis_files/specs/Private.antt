@@ -1,5 +1,5 @@
 -- What the bodies and their proofs use, and no public contract.
-use Rattle.std.specs.Prelude.{◌≡◌, ℕ, ◌+◌, ◌<◌, ◌≤◌, ◌⊎◌, List, ◌++◌, Option, length, ◌≢◌, Bool, false, IfSome, take}
+use Rattle.std.specs.Prelude.{◌≡◌, ℕ, ◌+◌, ◌<◌, ◌≤◌, ◌⊎◌, List, ◌++◌, Option, length, Bool, false, IfSome, take}
 use Rattle.std.specs.Io.KnownBytes.{Consumes, IsAtEnd}
 use Rattle.aegis_base.specs.Variant.{max_aead_bytes}
 use Rattle.aegis_files.specs.declared.error.FileError.{FileError}

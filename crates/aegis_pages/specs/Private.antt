@@ -1,14 +1,14 @@
 -- What the bodies and their proofs use, and no public contract.
-use Rattle.std.specs.Prelude.{◌≡◌, ℕ, ◌*◌, ◌<◌, ◌≤◌, List, Option, Some, length, map, [], ◌∷◌, ⊤, IfSome}
+use Rattle.std.specs.Prelude.{◌≡◌, ℕ, ◌*◌, ◌≤◌, List, Option, Some, length, map, [], ◌∷◌, ⊤}
 use Rattle.aegis_storage.specs.Disk.{Disk, Writes, certain, overwritten}
-use Rattle.aegis_pages.specs.Layouts.{IsPageSize, Layout, OpensAt, max_contents_bytes, page_place, sealed_bytes}
+use Rattle.aegis_pages.specs.Layouts.{Layout, OpensAt, max_contents_bytes, page_place, sealed_bytes}
 use Rattle.std.specs.BTreeMap.{BTreeMap}
 use Rattle.std.specs.List.{AllByRecursion}
 use Rattle.aegis_pages.specs.declared.changes.PageContents.{PageContents}
 use Rattle.aegis_pages.specs.OpenFile.{ArePages, ChangedPages, Plaintexts, contents_at}
 use Rattle.std.specs.declared.io.Error.{Error}
 use Rattle.aegis_pages.specs.declared.error.PagesError.{PagesError}
-use Rattle.aegis_pages.specs.declared.error.PagesError.TheVariants.{Read, Write, Nonce, Damaged, OutOfMemory, PageSize, Journal}
+use Rattle.aegis_pages.specs.declared.error.PagesError.TheVariants.{Read, Write, Damaged}
 use Rattle.aegis_pages.specs.Commits.{IsStorageReadError, ShowsNothing}
 
 -- the pages of each contents that the file had are those of the contents with the part written over it
