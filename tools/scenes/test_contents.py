@@ -12,11 +12,11 @@ PIECE = 65_536
 
 class Contents(Scene):
     def test_whole_files(self):
-        for length, records in (200_000, 5), (PIECE, 2), (0, 1):
+        for length, records in (200_000, "5 records"), (PIECE, "2 records"), (0, "1 record"):
             os.truncate("text", length)
             self.tool(0, "seal --force -k key text sealed")
             self.assertEqual(os.stat("sealed").st_mode & 0o777, 0o600)
-            self.tool(0, "info sealed", rf"\A{records} records, {length} bytes of contents, not verified\n\Z")
+            self.tool(0, "info sealed", rf"\A{records}, {length} bytes of contents, not verified\n\Z")
             self.tool(0, "check -k key sealed", rf"\A{length} bytes of contents, all verified\n\Z")
             self.shell(0, "$TOOL seal -k key - - < text | $TOOL open -k key | cmp - text")
         for command in "check -q -k key sealed", "info --quiet sealed":

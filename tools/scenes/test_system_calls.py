@@ -168,6 +168,24 @@ class Calls(Scene):
         turns = "BEFORE=open RUNS='[ ! -e key-is-open ] || ln -sfn key turned; touch key-is-open'"
         self.with_calls(3, turns, "seal --force -k key small turned", "would destroy the key")
 
+    # The same before each look at a file. The link leads to the output, the key or the input by then, which stay or are the
+    # output.
+    def test_a_link_that_is_turned_at_any_time(self):
+        for turned_to in "key", "small":
+            before = read(turned_to)
+            for number in range(1, 100):
+                os.symlink(write("aside", "old"), "turned")
+                turns = f"BEFORE=statx RUNS='echo >> looks; [ $(wc -l < looks) != {number} ] || ln -sfn {turned_to} turned'"
+                self.with_calls((0, 3), turns, "seal --force -k key small turned")
+                self.is_same(turned_to, before)
+                self.nothing_left()
+                is_turned = os.readlink("turned") == turned_to
+                os.remove("turned")
+                os.remove("looks")
+                if not is_turned:
+                    break
+            self.assertGreater(number, 8)
+
     # If the caller has closed standard error, the next file that is opened could get its descriptor, and a message.
     def test_no_message_in_an_output(self):
         for closed in "sealed out 2>&-", "sealed out >&- 2>&-", "sealed out <sealed >&- 2>&-", "- out <sealed 2>&-":

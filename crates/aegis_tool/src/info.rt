@@ -101,8 +101,12 @@ pub fn info<'a>(rt: &HostRuntime, paths: Transfer<'a>) -> Result<(), Failure<'a>
     if paths.quiet {
         return Ok(());
     }
+    let unit = match seen.records {
+        1 => "record",
+        _ => "records",
+    };
     printed(println!(rt;
-        "{} records, {} bytes of contents, not verified",
+        "{} {unit}, {} bytes of contents, not verified",
         seen.records, seen.text_bytes
     ))
 }

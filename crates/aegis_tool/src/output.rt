@@ -115,8 +115,17 @@ pub fn refuse_inputs<'a>(
     paths: Transfer<'a>,
     keys: &[&KeyFile<'a>],
 ) -> Result<(), Failure<'a>> {
+    refuse_inputs_at(rt, paths, keys, name_of(paths.output))
+}
+
+// The same for the file of this name, to which the output leads.
+fn refuse_inputs_at<'a>(
+    rt: &HostRuntime,
+    paths: Transfer<'a>,
+    keys: &[&KeyFile<'a>],
+    name: &str,
+) -> Result<(), Failure<'a>> {
     let (input, output) = (paths.input, paths.output);
-    let name = name_of(output);
     let unwritable = |error| Failure::Output(output.output_name(), error);
     let written = Identity::at(rt, name).map_err(unwritable)?;
     if written.is_none() {
@@ -421,6 +430,17 @@ impl<'a> Part<'a> {
                 Err(Failure::Output(output, error))
             }
         }
+    }
+
+    /// Returns an error if the output leads to the input or a key file, as `refuse_inputs` does: a link may have been
+    /// changed since.
+    pub fn refuse_inputs(
+        &self,
+        rt: &HostRuntime,
+        paths: Transfer<'a>,
+        keys: &[&KeyFile<'a>],
+    ) -> Result<(), Failure<'a>> {
+        refuse_inputs_at(rt, paths, keys, self.target.as_str())
     }
 
     // Whether this is a name of the file.

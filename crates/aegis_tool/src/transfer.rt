@@ -135,6 +135,7 @@ fn write_to<'a, R: Read + Drop>(
     rt: &HostRuntime,
     task: &Task,
     paths: Transfer<'a>,
+    keys: &[&KeyFile<'a>],
     input: &mut Counted<'_, R>,
 ) -> Result<(), Stopped<'a>> {
     let name = match paths.output {
@@ -153,10 +154,16 @@ fn write_to<'a, R: Read + Drop>(
             carry_out(rt, task, paths, input, file)?;
             Ok(())
         }
-        Target::Part(mut part) => match carry_out(rt, task, paths, input, &mut part.file) {
-            Ok(_) => Ok(part.end(rt, Ok(()))?),
-            Err(stopped) => Ok(part.end(rt, Err(stopped.failure))?),
-        },
+        Target::Part(mut part) => {
+            let written = match part.refuse_inputs(rt, paths, keys) {
+                Ok(()) => match carry_out(rt, task, paths, input, &mut part.file) {
+                    Ok(_) => Ok(()),
+                    Err(stopped) => Err(stopped.failure),
+                },
+                Err(failure) => Err(failure),
+            };
+            Ok(part.end(rt, written)?)
+        }
     }
 }
 
@@ -220,13 +227,13 @@ fn transfer<'a>(
             let file = open_input(rt, name, paths, keys)?;
             let shown = display(rt, quiet, length_of(&file));
             let mut input = buffered(rt, file, shown)?;
-            let written = write_to(rt, task, paths, &mut input);
+            let written = write_to(rt, task, paths, keys, &mut input);
             input.end();
             written
         }
         _ => {
             let mut input = buffered(rt, rt.stdin(), display(rt, quiet, None))?;
-            let written = write_to(rt, task, paths, &mut input);
+            let written = write_to(rt, task, paths, keys, &mut input);
             input.end();
             written
         }
@@ -289,16 +296,17 @@ pub fn open<'a>(rt: &HostRuntime, paths: Transfer<'a>) -> Result<(), Stopped<'a>
 /// Opens a part of the contents of a sealed file, without the rest.
 pub fn open_part<'a>(rt: &HostRuntime, span: Span, paths: Transfer<'a>) -> Result<(), Stopped<'a>> {
     let key = key_of(rt, paths)?;
-    refuse_inputs(rt, paths, &[&key])?;
+    let keys = &[&key];
+    refuse_inputs(rt, paths, keys)?;
     let Place::File(name) = paths.input else {
         return Err(Stopped::from(Failure::NoFile));
     };
-    let mut file = open_input(rt, name, paths, &[&key])?;
+    let mut file = open_input(rt, name, paths, keys)?;
     match start_of(&mut file, span) {
         Ok(start) => {
             let key = key.key;
             let mut input = Counted::new(file, None);
-            write_to(rt, &Task::OpenPart { key, start }, paths, &mut input)
+            write_to(rt, &Task::OpenPart { key, start }, paths, keys, &mut input)
         }
         Err(error) => {
             let failure = Failure::of_part(error, paths.input, paths.output, Seen::NOTHING);
