@@ -101,8 +101,6 @@ impl<P: Pair> LaneState for State128<P> {
 
     type Row = P::Row;
 
-    const FIT_REGISTERS: bool = P::Row::LANES < 4;
-
     const RATE: usize = 32 * P::Row::LANES;
 
     ghost RATE = { 32 * P.Row.LANES };

@@ -129,8 +129,6 @@ impl<P: Pair> LaneState for State256<P> {
 
     type Row = P::Row;
 
-    const FIT_REGISTERS: bool = P::Row::LANES < 4;
-
     const RATE: usize = 16 * P::Row::LANES;
 
     ghost RATE = { 16 * P.Row.LANES };

@@ -17,15 +17,11 @@ use aegis_aes::{AesBlock, Row};
 /// as if it ran alone. A state also counts its updates since initialization.
 ///
 /// A family implements the steps of the AEGIS specification, and initialization, the end and the tags are composed of
-/// them here. The engine uses only `RATE`, `FIT_REGISTERS`, the names, `new`, `absorb`, `absorb_in_each`,
+/// them here. The engine uses only `RATE`, the names, `new`, `absorb`, `absorb_in_each`,
 /// `xor_keystream`, `finalize`, `zeros` and the tags.
 pub trait LaneState: Copy {
     /// The type of a row: one block of each lane.
     type Row: Row;
-
-    /// Whether the rows fit a processor's registers. If they do not, an update reads and writes them where they lie. No
-    /// result depends on it.
-    const FIT_REGISTERS: bool;
 
     /// The length of a rate block, which all lanes together take in by one update: at most 128 bytes.
     const RATE: usize;

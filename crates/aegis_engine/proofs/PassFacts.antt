@@ -48,6 +48,15 @@ absorbed-at Seal old new a n k low = sym (get_or-bytes_at old a n k 0 low)
 absorbed-at Open old new a n k low = sym (get_or-bytes_at new a n k 0 low)
 absorbed-at Keystream old new a n k low = zeros-read (length old) (a + k) ∙ sym (zeros-read (length (bytes_at old a n)) k)
 
+-- what a pass takes in from place a on of some bytes, and from place b on of the same ones
+pub absorbed-same : (pass : Pass) (old new x y : List ℕ) (a b n : ℕ)
+    → ((k : ℕ) → k < n → slice_index old (a + k) ≡ slice_index x (b + k))
+    → ((k : ℕ) → k < n → slice_index new (a + k) ≡ slice_index y (b + k))
+    → (k : ℕ) → k < n → slice_index (absorbed pass old new) (a + k) ≡ slice_index (absorbed pass x y) (b + k)
+absorbed-same Seal old new x y a b n e f k low = e k low
+absorbed-same Open old new x y a b n e f k low = f k low
+absorbed-same Keystream old new x y a b n e f k low = zeros-read (length old) (a + k) ∙ sym (zeros-read (length x) (b + k))
+
 pub length-absorbed : (pass : Pass) (old new : List ℕ) → length new ≡ length old → length (absorbed pass old new) ≡ length old
 length-absorbed Seal old new e = refl
 length-absorbed Open old new e = e

@@ -152,10 +152,7 @@ impl<S: LaneState, U, const KEY_BYTES: usize, const TAG_BYTES: usize> Cipher<
         ensures { (mc.new, result)
             ≡ seal S.VARIANT TAG_BYTES self.key self.nonce (joined ad.now) mc.old }
     {
-        let mut context = Context::<S>::begin_with(&self.key, &self.nonce, ad);
-        let total = mc.len() as u64;
-        context.pass(Pass::Seal, None, mc, total);
-        context.tag()
+        Context::<S>::sealed_in_place(&self.key, &self.nonce, ad, mc).tag()
     }
 
     /// Opens a ciphertext in place, as `decrypt_in_place` does, with associated data in pieces, which are concatenated.
@@ -190,10 +187,7 @@ impl<S: LaneState, U, const KEY_BYTES: usize, const TAG_BYTES: usize> Cipher<
         requires associated_data_within { length ad.now ≤ MAX_AEAD_BYTES }
         ensures { (c.new, result) ≡ seal S.VARIANT TAG_BYTES self.key self.nonce ad.now m.now }
     {
-        let mut context = Context::<S>::begin(&self.key, &self.nonce, ad);
-        let total = m.len() as u64;
-        context.pass(Pass::Seal, Some(m), c, total);
-        context.tag()
+        Context::<S>::sealed_into(&self.key, &self.nonce, &[ad], m, c).tag()
     }
 
     /// Opens a ciphertext into another buffer, `m`, which must be as long.
@@ -251,9 +245,10 @@ impl<S: LaneState, U, const KEY_BYTES: usize, const TAG_BYTES: usize> Cipher<
         ensures erased { OnErr result (mc.new ≡ replicate (length mc.old) erased_byte) }
         ensures error { IfErr result (λ e. e ≡ Error.InvalidTag) }
     {
-        let mut context = Context::<S>::begin_with(&self.key, &self.nonce, ad);
-        let total = mc.len() as u64;
-        context.pass(Pass::Open, source, mc, total);
+        let context = match source {
+            Some(c) => Context::<S>::opened_into(&self.key, &self.nonce, ad, c, mc),
+            None => Context::<S>::opened_in_place(&self.key, &self.nonce, ad, mc),
+        };
         if context.has_tag(tag) {
             Ok(())
         } else {

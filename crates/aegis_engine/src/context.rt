@@ -269,6 +269,82 @@ impl<S: LaneState> Context<S> {
         self.message_bytes = total;
     }
 
+    /// Returns the context after a whole message, which is `mc` and is sealed in place.
+    // This and the next three are out of line, so that both tag lengths share them. In one function for both buffers,
+    // the loops would share registers too.
+    #[inline(never)]
+    pub fn sealed_in_place(key: &[u8], nonce: &[u8], ad: &[&[u8]], mc: &mut [u8]) -> Self
+        requires key_length { length key.now ≡ key_length S.VARIANT.family }
+        requires nonce_length { length nonce.now ≡ key_length S.VARIANT.family }
+        requires associated_data_within { length (joined ad.now) ≤ MAX_AEAD_BYTES }
+        requires message_within { length mc.old ≤ MAX_AEAD_BYTES }
+        ensures stands { Stands S.VARIANT result key.now nonce.now (joined ad.now) mc.old }
+        ensures written { mc.new
+            ≡ ciphertext S.VARIANT key.now nonce.now (joined ad.now) mc.old }
+        ensures message_bytes { result.message_bytes ≡ length mc.old }
+    {
+        let mut context = Context::begin_with(key, nonce, ad);
+        let total = mc.len() as u64;
+        context.pass(Pass::Seal, None, mc, total);
+        context
+    }
+
+    /// Returns the context after a whole message, which is `source` and is sealed into `mc`.
+    #[inline(never)]
+    pub fn sealed_into(key: &[u8], nonce: &[u8], ad: &[&[u8]], source: &[u8], mc: &mut [u8]) -> Self
+        requires key_length { length key.now ≡ key_length S.VARIANT.family }
+        requires nonce_length { length nonce.now ≡ key_length S.VARIANT.family }
+        requires associated_data_within { length (joined ad.now) ≤ MAX_AEAD_BYTES }
+        requires message_within { length mc.old ≤ MAX_AEAD_BYTES }
+        requires lengths { length source.now ≡ length mc.old }
+        ensures stands { Stands S.VARIANT result key.now nonce.now (joined ad.now) source.now }
+        ensures written { mc.new
+            ≡ ciphertext S.VARIANT key.now nonce.now (joined ad.now) source.now }
+        ensures message_bytes { result.message_bytes ≡ length mc.old }
+    {
+        let mut context = Context::begin_with(key, nonce, ad);
+        let total = mc.len() as u64;
+        context.pass(Pass::Seal, Some(source), mc, total);
+        context
+    }
+
+    /// Returns the context after a whole message, whose ciphertext is `mc` and is opened in place.
+    #[inline(never)]
+    pub fn opened_in_place(key: &[u8], nonce: &[u8], ad: &[&[u8]], mc: &mut [u8]) -> Self
+        requires key_length { length key.now ≡ key_length S.VARIANT.family }
+        requires nonce_length { length nonce.now ≡ key_length S.VARIANT.family }
+        requires associated_data_within { length (joined ad.now) ≤ MAX_AEAD_BYTES }
+        requires message_within { length mc.old ≤ MAX_AEAD_BYTES }
+        ensures stands { Stands S.VARIANT result key.now nonce.now (joined ad.now) mc.new }
+        ensures written { mc.old
+            ≡ ciphertext S.VARIANT key.now nonce.now (joined ad.now) mc.new }
+        ensures message_bytes { result.message_bytes ≡ length mc.old }
+    {
+        let mut context = Context::begin_with(key, nonce, ad);
+        let total = mc.len() as u64;
+        context.pass(Pass::Open, None, mc, total);
+        context
+    }
+
+    /// Returns the context after a whole message, whose ciphertext is `source` and is opened into `mc`.
+    #[inline(never)]
+    pub fn opened_into(key: &[u8], nonce: &[u8], ad: &[&[u8]], source: &[u8], mc: &mut [u8]) -> Self
+        requires key_length { length key.now ≡ key_length S.VARIANT.family }
+        requires nonce_length { length nonce.now ≡ key_length S.VARIANT.family }
+        requires associated_data_within { length (joined ad.now) ≤ MAX_AEAD_BYTES }
+        requires message_within { length mc.old ≤ MAX_AEAD_BYTES }
+        requires lengths { length source.now ≡ length mc.old }
+        ensures stands { Stands S.VARIANT result key.now nonce.now (joined ad.now) mc.new }
+        ensures written { source.now
+            ≡ ciphertext S.VARIANT key.now nonce.now (joined ad.now) mc.new }
+        ensures message_bytes { result.message_bytes ≡ length mc.old }
+    {
+        let mut context = Context::begin_with(key, nonce, ad);
+        let total = mc.len() as u64;
+        context.pass(Pass::Open, Some(source), mc, total);
+        context
+    }
+
     /// Returns the lanes after all bytes: if a rate block is open, it is taken in, padded with zeros.
     #[inline(always)]
     pub fn padded(&self) -> S

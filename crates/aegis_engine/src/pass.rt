@@ -5,7 +5,7 @@
 //! Associated data and the input of a MAC are taken in without a buffer. In contracts, the context has taken in `total`
 //! bytes before a call.
 
-ghost use Rattle.std.specs.Prelude.{◌≡◌, ℕ, ◌+◌, ◌*◌, ◌/◌, ◌%◌, ◌^◌, ◌<◌, ◌≤◌, IfSome, bit_xor, length, List, slice_index, replicate};
+ghost use Rattle.std.specs.Prelude.{◌≡◌, ℕ, ◌+◌, ◌*◌, ◌/◌, ◌%◌, ◌^◌, ◌<◌, ◌≤◌, IfSome, bit_xor, length, List, slice_index};
 ghost use Rattle.aegis_aes.specs.Private.{IsSameBefore, IsSameFrom};
 ghost use Rattle.aegis_aes.specs.Block.{bytes_at};
 ghost use Rattle.aegis_base.specs.Lane.{update};
@@ -205,27 +205,49 @@ pub fn pass_part<S: LaneState>(
     }
 }
 
-// Updates the lanes by a rate block of zeros.
+// The bytes that the lanes take in: `block`, which is `passed` after the xor, as `pass` selects.
 #[inline(always)]
-fn absorb_zeros<S: LaneState>(state: &mut S)
-    requires { S.updates state.old + 1 < 2 ^ 64 }
-    ensures lanes { (j i n : ℕ) → j < S.VARIANT.lanes
-        → S.lane state.new j
-        ≡ update S.VARIANT.family (S.lane state.old j)
-        (share_at S.VARIANT j (replicate n 0) i) }
-    ensures updates { S.updates state.new ≡ S.updates state.old + 1 }
+fn selected(pass: Pass, block: &RateBlock, passed: &RateBlock) -> RateBlock
+    ensures { result ≡ absorbed pass block.now passed.now }
 {
-    state.absorb(&ZEROS, 0);
+    match pass {
+        Pass::Seal => *block,
+        Pass::Open => *passed,
+        Pass::Keystream => ZEROS,
+    }
+}
+
+// Writes a block, XORed with the keystream of `before`, to the rate block of a buffer that begins at place `at`, and
+// returns it.
+#[inline(always)]
+fn write_xored<S: LaneState>(
+    before: S,
+    block: &RateBlock,
+    buffer: &mut [u8],
+    at: usize,
+) -> RateBlock
+    requires { at + S.RATE ≤ length buffer.old }
+    ensures written { (k : ℕ) → k < S.RATE
+        → slice_index buffer.new (at + k)
+        ≡ bit_xor (slice_index block.now k) (keystream_byte S.VARIANT (S.lane before) k) }
+    ensures result { (k : ℕ) → k < S.RATE → slice_index result k ≡ slice_index buffer.new (at + k) }
+    ensures below { IsSameBefore at buffer.old buffer.new }
+    ensures above { IsSameFrom (at + S.RATE) buffer.old buffer.new }
+{
+    let mut passed = *block;
+    xor_block(before, &mut passed, 0);
+    copy_part(buffer, at, &passed, 0, S::RATE);
+    passed
 }
 
 // Updates the lanes by one rate block of a buffer: it is copied from `source` if there is one, and xored with the
-// keystream of `before`, which are the lanes before that, and the lanes take in the bytes that `pass` selects.
+// keystream of the lanes before that, and the lanes take in the bytes that `pass` selects.
 //
-// Once the block is in the buffer, only locals are read. So LLVM need not know that a source lies apart from the
-// buffer, and keeps the block in registers. The rows are no longer needed after their update.
+// Only the copy of the block is read. So LLVM need not know that a source lies apart from the buffer, and keeps the
+// block in registers. It is written before the update of the rows, which are not needed afterwards. When a block of 16
+// bytes is sealed it is written after that: else x86-64-v2 has too few registers for the constants of the round.
 #[inline(always)]
 fn pass_block<S: LaneState>(
-    before: S,
     state: &mut S,
     pass: Pass,
     source: Option<&[u8]>,
@@ -238,7 +260,7 @@ fn pass_block<S: LaneState>(
     ensures written { (k : ℕ) → k < S.RATE
         → slice_index buffer.new (at + k)
         ≡ bit_xor (slice_index (given source.entry buffer.old) (at + k))
-        (keystream_byte S.VARIANT (S.lane before) k) }
+        (keystream_byte S.VARIANT (S.lane state.old) k) }
     ensures below { IsSameBefore at buffer.old buffer.new }
     ensures above { IsSameFrom (at + S.RATE) buffer.old buffer.new }
     ensures lanes { (j : ℕ) → j < S.VARIANT.lanes
@@ -247,14 +269,17 @@ fn pass_block<S: LaneState>(
         (share_at S.VARIANT j (absorbed pass (given source.entry buffer.old) buffer.new) at) }
     ensures updates { S.updates state.new ≡ S.updates state.old + 1 }
 {
+    let before = *state;
     let block = copied_given::<S>(source, buffer, at);
-    let mut passed = block;
-    xor_block(before, &mut passed, 0);
-    copy_part(buffer, at, &passed, 0, S::RATE);
     match pass {
-        Pass::Seal => state.absorb(&block, 0),
-        Pass::Open => state.absorb(&passed, 0),
-        Pass::Keystream => absorb_zeros(state),
+        Pass::Seal if S::RATE == 16 => {
+            state.absorb(&block, 0);
+            write_xored(before, &block, buffer, at);
+        }
+        _ => {
+            let passed = write_xored(before, &block, buffer, at);
+            state.absorb(&selected(pass, &block, &passed), 0);
+        }
     }
 }
 
@@ -308,13 +333,7 @@ pub fn pass_whole<S: LaneState>(
     let rate = S::RATE;
     let mut state = state;
     for i in 0..count {
-        if S::FIT_REGISTERS {
-            let mut next = state;
-            pass_block(state, &mut next, pass, source, buffer, at + i * rate);
-            state = next;
-        } else {
-            pass_block(state, &mut state, pass, source, buffer, at + i * rate);
-        }
+        pass_block(&mut state, pass, source, buffer, at + i * rate);
     }
     state
 }

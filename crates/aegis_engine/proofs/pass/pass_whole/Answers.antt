@@ -11,7 +11,6 @@ use Rattle.aegis_engine.specs.Pass.{absorbed, given}
 use Rattle.aegis_engine.proofs.PassFacts.{block-passed, block-start, given-same}
 use Rattle.aegis_engine.proofs.PieceFacts.{passed-more, passed-none}
 use Rattle.aegis_engine.proofs.pass.pass_whole.Goals as goal
-use Rattle.aegis_engine.proofs.pass.pass_whole.Goals.{then-FIT_REGISTERS, else-FIT_REGISTERS}
 
 pub loop-i-init : goal.loop-i-init
 unfolding bytes_at
@@ -30,27 +29,15 @@ loop-i-preserved g c =
     let L = g.S.LaneState in let r : ℕ = c.RATE-rate.result in let i : ℕ = c.loop-i.i in let inv = c.loop-i.invariant in
     let at : ℕ = c.args.at in let here : ℕ = at + i * r in
     let old : List ℕ = c.args.buffer.now in let now : List ℕ = c.loop-i.buffer in
-    let new : List ℕ = c.if-FIT_REGISTERS.buffer in let source : List ℕ = given c.args.source old in let next : List ℕ = given c.args.source now in
-    let turn : record {
-      written : (k : ℕ) → k < L.RATE
-          → slice_index new (here + k) ≡ bit_xor (slice_index next (here + k)) (keystream_byte L.VARIANT (L.lane c.loop-i.state) k);
-      below : IsSameBefore here now new;
-      above : IsSameFrom (here + L.RATE) now new;
-      lanes : (j : ℕ) → j < L.VARIANT.lanes
-          → L.lane c.if-FIT_REGISTERS.state j
-          ≡ update L.VARIANT.family (L.lane c.loop-i.state j) (share_at L.VARIANT j (absorbed c.args.pass next new) here);
-      updates : L.updates c.if-FIT_REGISTERS.state ≡ L.updates c.loop-i.state + 1;
-    } = elim c.if-FIT_REGISTERS.branch [
-      | then-FIT_REGISTERS w ↦ rw (w.state-is, w.buffer-is) w.pass_block.ensures
-      | else-FIT_REGISTERS w ↦ rw (w.state-is, w.buffer-is) w.pass_block-else-FIT_REGISTERS.ensures
-    ] in
+    let new : List ℕ = c.pass_block.new.buffer in let source : List ℕ = given c.args.source old in let next : List ℕ = given c.args.source now in
+    let turn = c.pass_block.ensures in
     let rate_is : r ≡ rate L.VARIANT = c.RATE-rate.ensures ∙ g.met.S.LaneState.rate_is in
     record {
       updates = omega arith;
       passed = λ block ad_bytes total unopened.
           let none : (total + i * r) % r ≡ 0 =
           block-start total i r (rw rate_is (rate-positive L.VARIANT g.met.S.LaneState.one_two_or_four)) (unopened (omega arith)) in
-          let passed = block-passed L.VARIANT (L.lane c.loop-i.state) (L.lane c.if-FIT_REGISTERS.state) (L.updates c.loop-i.state) (L.updates c.if-FIT_REGISTERS.state)
+          let passed = block-passed L.VARIANT (L.lane c.loop-i.state) (L.lane c.pass_block.new.state) (L.updates c.loop-i.state) (L.updates c.pass_block.new.state)
           block ad_bytes (total + i * r) c.args.pass next new here r g.met.S.LaneState.one_two_or_four rate_is none turn.updates
           (λ k low. turn.written k (rw (← c.RATE-rate.ensures) low)) turn.lanes in
           let kept : bytes_at now at (i * r) ≡ bytes_at new at (i * r) = bytes_at-same now new at at (i * r) (λ k low. sym (turn.below (at + k) (omega arith))) in
