@@ -168,23 +168,33 @@ class Calls(Scene):
         turns = "BEFORE=open RUNS='[ ! -e key-is-open ] || ln -sfn key turned; touch key-is-open'"
         self.with_calls(3, turns, "seal --force -k key small turned", "would destroy the key")
 
-    # The same before each look at a file. The link leads to the output, the key or the input by then, which stay or are the
-    # output.
+    # The same before each look at a file: what the link then leads to, a key or the input, stays as it was.
     def test_a_link_that_is_turned_at_any_time(self):
-        for turned_to in "key", "small":
-            before = read(turned_to)
-            for number in range(1, 100):
-                os.symlink(write("aside", "old"), "turned")
-                turns = f"BEFORE=statx RUNS='echo >> looks; [ $(wc -l < looks) != {number} ] || ln -sfn {turned_to} turned'"
-                self.with_calls((0, 3), turns, "seal --force -k key small turned")
-                self.is_same(turned_to, before)
-                self.nothing_left()
-                is_turned = os.readlink("turned") == turned_to
-                os.remove("turned")
-                os.remove("looks")
-                if not is_turned:
-                    break
-            self.assertGreater(number, 8)
+        for command, name in (
+            ("seal --force -k key small turned", "key"),
+            ("seal --force -k key small turned", "small"),
+            ("open --force -k key sealed turned", "sealed"),
+            ("open --force -k key --from 0 sealed turned", "key"),
+            ("rekey --force -k key -n other sealed turned", "other"),
+        ):
+            with self.subTest(command, name=name):
+                self.turn_before_each_look(command, name)
+
+    def turn_before_each_look(self, command, name):
+        before = read(name)
+        for number in range(1, 100):
+            os.symlink(write("aside", "old"), "turned")
+            turns = f"BEFORE=statx RUNS='echo >> looks; [ $(wc -l < looks) != {number} ] || ln -sfn {name} turned'"
+            self.with_calls((0, 3), turns, command)
+            self.is_same(name, before)
+            self.nothing_left()
+            is_turned = os.readlink("turned") == name
+            os.remove("turned")
+            os.remove("looks")
+            if not is_turned:
+                self.assertGreater(number, 8)
+                return
+        self.fail("the run has too many looks")
 
     # If the caller has closed standard error, the next file that is opened could get its descriptor, and a message.
     def test_no_message_in_an_output(self):

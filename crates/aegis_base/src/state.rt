@@ -17,8 +17,8 @@ use aegis_aes::{AesBlock, Row};
 /// as if it ran alone. A state also counts its updates since initialization.
 ///
 /// A family implements the steps of the AEGIS specification, and initialization, the end and the tags are composed of
-/// them here. The engine uses only `RATE`, the names, `new`, `absorb`, `absorb_in_each`,
-/// `xor_keystream`, `finalize`, `zeros` and the tags.
+/// them here. The engine uses only `RATE`, the names, `new`, `absorb`, `absorb_in_each`, `xor_keystream`, `finalize`,
+/// `zeros` and the tags.
 pub trait LaneState: Copy {
     /// The type of a row: one block of each lane.
     type Row: Row;

@@ -219,8 +219,7 @@ impl<S: LaneState, U, const KEY_BYTES: usize, const TAG_BYTES: usize> Cipher<
         self.open_given(Some(c), m, tag, &[ad])
     }
 
-    // Opens a ciphertext, which is `source`, or if there is none, `mc`, into `mc`. Inlined, each caller has a loop over
-    // rate blocks of its own.
+    // Opens a ciphertext, which is `source`, or if there is none, `mc`, into `mc`.
     #[inline(always)]
     fn open_given(
         self,

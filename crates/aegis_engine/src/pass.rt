@@ -217,8 +217,8 @@ fn selected(pass: Pass, block: &RateBlock, passed: &RateBlock) -> RateBlock
     }
 }
 
-// Writes a block, XORed with the keystream of `before`, to the rate block of a buffer that begins at place `at`, and
-// returns it.
+// Writes a block, xored with the keystream of `before`, to the rate block of a buffer that begins at place `at`, and
+// returns what was written.
 #[inline(always)]
 fn write_xored<S: LaneState>(
     before: S,

@@ -432,8 +432,8 @@ impl<'a> Part<'a> {
         }
     }
 
-    /// Returns an error if the output leads to the input or a key file, as `refuse_inputs` does: a link may have been
-    /// changed since.
+    /// Returns an error if the file to be replaced is the input or one of the key files: the output may be a link that
+    /// was changed after the first look.
     pub fn refuse_inputs(
         &self,
         rt: &HostRuntime,
