@@ -84,11 +84,10 @@ $(OUT)/hunkravy.3: c/manual.awk $(OWN_HEADERS:%=c/include/%) VERSION | $(OUT)
 # Its headers, and over the library with both levels and over each level alone the examples, every call of each header,
 # against the stored lines where these have its result, and forgeries, and what hunkravy_wipe leaves in memory; then what does
 # not depend on the level.
-# A level that this processor lacks is left out. For ARM the programs run under an emulator, where the sanitizers do not look
-# for leaks.
-check-c: $(if $(filter aarch64,$(FOLDER)),check-c-aarch64 check-sanitized,check-header $(addprefix check-c-,both $(RUNNABLE)) \
+# A level that this processor lacks is left out. For ARM the programs run under an emulator, without the sanitizers: the C is
+# the same, and they take a minute and a half there.
+check-c: $(if $(filter aarch64,$(FOLDER)),check-c-aarch64,check-header $(addprefix check-c-,both $(RUNNABLE)) \
 	check-sanitized check-shared check-level check-c++ check-sodium check-rebuilt)
-check-sanitized: export ASAN_OPTIONS = detect_leaks=$(if $(filter aarch64,$(FOLDER)),0,1)
 
 # Each header compiles alone, by each standard of C and C++, and without a warning; and so does what is compiled here. The oldest
 # standards are without -Wpedantic, which libsodium's headers do not pass either.
@@ -177,19 +176,18 @@ check-c-%: $(OUT)/%/libhunkravy.a
 
 # The programs with the calls of c/library under gcc's sanitizers, over the proved exports of one level. These get no null
 # pointer.
-SANITIZED_LEVEL = $(if $(filter aarch64,$(FOLDER)),aarch64,$(firstword $(LEVELS)))
-SANITIZED = $(OUT)/$(FOLDER)/sanitized
+SANITIZED = $(OUT)/sanitized
 
-check-sanitized: $(OUT)/$(SANITIZED_LEVEL)/aegis_c.a
+check-sanitized: $(OUT)/$(firstword $(LEVELS))/aegis_c.a
 	mkdir -p $(SANITIZED)
 	cp c/library/* c/file/* c/levels/choose.c $(SANITIZED)
 	sed -i 's/^int hunkravy_proved_/__attribute__((nonnull)) &/' $(SANITIZED)/proved.h
 	for program in $(C_PROGRAMS); do \
-		$(TOOLS_$(FOLDER))$(CC) -std=c99 $(C_FLAGS) $(SANITIZERS) -DHUNKRAVY_LEVEL=1 c/[et]*/$$program.c $(SANITIZED)/*.c $< \
+		$(CC) -std=c99 $(C_FLAGS) $(SANITIZERS) -DHUNKRAVY_LEVEL=1 c/[et]*/$$program.c $(SANITIZED)/*.c $< \
 			$(WRAPS) -o $(SANITIZED)/$$program && \
-		$(RUN_$(FOLDER)) $(SANITIZED)/$$program $(STORED_LINES) || exit 1; \
+		$(SANITIZED)/$$program $(STORED_LINES) || exit 1; \
 	done
-	c/tests/check_records.sh $(RUN_$(FOLDER)) $(SANITIZED)/records
+	c/tests/check_records.sh $(SANITIZED)/records
 
 # Each library is built again once a file of each folder that it is made of is newer, and the shared one once its rule is.
 check-rebuilt: $(OUT)/both/libhunkravy.a $(OUT)/both/$(SONAME)
