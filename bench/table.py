@@ -8,6 +8,7 @@ the page, up to the line on the processor, stays.
 import re
 import sys
 import textwrap
+from datetime import date
 from pathlib import Path
 
 # The flags of instructions on vectors or for ciphers.
@@ -15,11 +16,11 @@ FLAGS = re.compile(r"v?aes|avx.*|s?sse.*|v?pclmul.*|bmi.*|sha_ni|gfni")
 
 
 def processor() -> str:
-    """The line on the processor."""
+    """The line on the processor and the day."""
     fields = dict(re.findall(r"^(model name|cpu MHz|flags)\s*: (.*)$", Path("/proc/cpuinfo").read_text(), re.M))
     flags = " ".join(filter(FLAGS.fullmatch, fields["flags"].split()))
     line = f"Processor: {fields['model name']}, {float(fields['cpu MHz']):.0f} MHz, with {flags}."
-    return textwrap.fill(line, 120, break_on_hyphens=False)
+    return textwrap.fill(f"{line} Measured on {date.today()}.", 120, break_on_hyphens=False)
 
 
 def cell(turns: list[tuple[float, int]]) -> str:

@@ -18,7 +18,7 @@ use aegis_aes::{AesBlock, Row};
 ///
 /// A family implements the steps of the AEGIS specification, and initialization, the end and the tags are composed of
 /// them here. The engine uses only `RATE`, the names, `new`, `absorb`, `absorb_in_each`, `xor_keystream`, `finalize`,
-/// `zeros` and the tags.
+/// `zeros` and the tags, and of a row `LANES` and `store`.
 pub trait LaneState: Copy {
     /// The type of a row: one block of each lane.
     type Row: Row;

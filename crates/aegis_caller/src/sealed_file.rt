@@ -9,7 +9,7 @@ ghost use Rattle.aegis.specs.declared.record.version.Version.TheVariants.{Second
 
 use aegis::aegis256::Key;
 use aegis::record::{MAX_CONTEXT_BYTES, RecordError};
-use aegis_files::laws::one_contents;
+use aegis_files::laws::{damaged_record, one_contents};
 use aegis_files::{ContentsRange, FileError, open_range, open_stream, rekey_stream, seal_stream};
 use std::alloc::Allocator;
 
@@ -52,6 +52,25 @@ pub fn open_contents<A: Allocator + Copy>(
         → IsSealedFile key.now context.now contents file.now
         → (why : RecordError) → e ≡ FileError.Stream why → why ≡ RecordError.OutOfMemory) }
 {
+    let mut contents = Vec::new(alloc);
+    let mut input = file;
+    open_stream(alloc, key, context, &mut input, &mut contents)?;
+    Ok(contents)
+}
+
+/// Opens a file, and returns its contents. A record that is named as damaged is one that a file of this length has room
+/// for.
+pub fn open_or_name_damage<A: Allocator + Copy>(
+    alloc: A,
+    key: &Key,
+    context: &[u8],
+    file: &[u8],
+) -> Result<Vec<u8, A>, FileError>
+    requires { length context.now ≤ MAX_CONTEXT_BYTES }
+    ensures { (number : ℕ) → result ≡ Err (FileError.Stream (RecordError.Damaged number))
+        → 28 + 37 * (number + 1) ≤ length file.now }
+{
+    damaged_record();
     let mut contents = Vec::new(alloc);
     let mut input = file;
     open_stream(alloc, key, context, &mut input, &mut contents)?;
@@ -109,7 +128,7 @@ pub fn open_part<A: Allocator + Copy>(
 }
 
 /// Opens a part of the contents. The error names the fault of the record after those that were opened, if memory did
-/// not run out.
+/// not run out. A record that is named as damaged is that of the position or a later one, within `records`.
 pub fn open_part_or_fault<A: Allocator + Copy>(
     alloc: A,
     key: &Key,
@@ -121,11 +140,15 @@ pub fn open_part_or_fault<A: Allocator + Copy>(
     requires context_within { length context.now ≤ MAX_CONTEXT_BYTES }
     requires version { range.position.version ≡ Second }
     requires start_within { start_at range.position ≤ MAX_AEAD_BYTES }
-    ensures { IfErr result (λ e. (messages : List (List ℕ)) × (rest : List ℕ)
+    ensures fault { IfErr result (λ e. (messages : List (List ℕ)) × (rest : List ℕ)
         × ((why : RecordError) → e ≡ FileError.Stream why → (why ≡ RecordError.OutOfMemory)
         ⊎ IsFaultAt (sealed key.now prefix.now context.now)
         (position_after range.position messages) rest why)) }
+    ensures damaged { (number : ℕ) → result ≡ Err (FileError.Stream (RecordError.Damaged number))
+        → (range.position.number ≤ number)
+        × (37 * (number + 1) ≤ 37 * range.position.number + length records.now) }
 {
+    damaged_record();
     let mut part = Vec::new(alloc);
     let mut input = records;
     open_range(alloc, key, prefix, context, range, &mut input, &mut part)?;

@@ -23,7 +23,7 @@ use std::alloc::{AllocError, Allocator};
 use std::fmt;
 use std::marker::{Model, PhantomData};
 
-/// The value of each byte of the buffer after `decrypt_in_place` has refused a tag.
+/// The value of each byte of the buffer after decryption in place, or into another buffer, has refused a tag.
 pub const ERASED: u8 = 0xaa;
 
 /// Marks a cipher that is used once: it is not `Copy`.
@@ -40,8 +40,8 @@ pub struct Reusable;
 /// more than one lane are.
 ///
 /// Lengths are in bytes. Associated data and messages must each have at most [`MAX_AEAD_BYTES`]; keystreams have no
-/// limit. Only `encrypt`, `decrypt` and `stream_xor` allocate memory: the message's length, in one reservation before
-/// any byte is processed.
+/// limit. Only `encrypt`, `decrypt`, `decrypt_with` and `stream_xor` allocate memory: the message's length, in one
+/// reservation before any byte is processed.
 #[derive(Copy, Drop)]
 pub struct Cipher<S: LaneState, U, const KEY_BYTES: usize, const TAG_BYTES: usize> {
     key: [u8; KEY_BYTES],

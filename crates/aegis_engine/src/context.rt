@@ -1,7 +1,7 @@
 //! Contexts: lanes that take in associated data and a message, in pieces of any lengths.
 //!
-//! A piece first fills the open block; then its whole rate blocks are processed in place, and the open block keeps the
-//! rest. A call that has its whole input at once is a context of one piece. In contracts a context is a `Held`, and
+//! A piece first fills the open block; then its whole rate blocks are processed, and the open block keeps the rest. A
+//! call that has its whole input at once is a context of one piece. In contracts a context is a `Held`, and
 //! clauses state the key, nonce, associated data and message so far that it stands for.
 
 ghost use Rattle.std.specs.Prelude.{◌≡◌, ℕ, ◌+◌, ◌-◌, ◌*◌, ◌%◌, ◌/◌, ◌^◌, ◌<◌, ◌≤◌, ◌⊎◌, ◌++◌, ◌↔◌, IfSome, [], bit_xor, length, List, slice_index, true};
@@ -100,8 +100,8 @@ pub fn absorb_bytes<S: LaneState>(state: S, block: &mut RateBlock, total: u64, b
     state
 }
 
-/// The lanes after the next bytes of a message, of which they have taken in `total`: each byte is copied from `source`
-/// if there is one, and xored with the keystream, and the lanes take in the bytes that `pass` selects. The open block
+/// The lanes after the next bytes of a message, of which they have taken in `total`. Each byte is copied from `source`
+/// if there is one, and xored with the keystream. The lanes take in the bytes that `pass` selects, and the open block
 /// is filled where it lies.
 #[inline(always)]
 pub fn pass_bytes<S: LaneState>(
@@ -269,9 +269,9 @@ impl<S: LaneState> Context<S> {
         self.message_bytes = total;
     }
 
-    /// Returns the context after a whole message, which is `mc` and is sealed in place.
-    // This and the next three are out of line, so that both tag lengths share them. In one function for both buffers,
-    // the loops would share registers too.
+    /// Encrypts a whole message in place, and returns the context after it, which has the tag.
+    // This and the next three are out of line, so that both tag lengths share them. The loop of one function for both
+    // buffers would have up to 8 per cent more instructions.
     #[inline(never)]
     pub fn sealed_in_place(key: &[u8], nonce: &[u8], ad: &[&[u8]], mc: &mut [u8]) -> Self
         requires key_length { length key.now ≡ key_length S.VARIANT.family }
@@ -289,7 +289,8 @@ impl<S: LaneState> Context<S> {
         context
     }
 
-    /// Returns the context after a whole message, which is `source` and is sealed into `mc`.
+    /// Encrypts a whole message from `source` into `mc`, which is as long, and returns the context after it, which has
+    /// the tag.
     #[inline(never)]
     pub fn sealed_into(key: &[u8], nonce: &[u8], ad: &[&[u8]], source: &[u8], mc: &mut [u8]) -> Self
         requires key_length { length key.now ≡ key_length S.VARIANT.family }
@@ -308,7 +309,8 @@ impl<S: LaneState> Context<S> {
         context
     }
 
-    /// Returns the context after a whole message, whose ciphertext is `mc` and is opened in place.
+    /// Decrypts a whole ciphertext in place, before its tag is verified: `has_tag` of the context that is returned
+    /// decides.
     #[inline(never)]
     pub fn opened_in_place(key: &[u8], nonce: &[u8], ad: &[&[u8]], mc: &mut [u8]) -> Self
         requires key_length { length key.now ≡ key_length S.VARIANT.family }
@@ -326,7 +328,8 @@ impl<S: LaneState> Context<S> {
         context
     }
 
-    /// Returns the context after a whole message, whose ciphertext is `source` and is opened into `mc`.
+    /// Decrypts a whole ciphertext from `source` into `mc`, which is as long, before its tag is verified: `has_tag` of
+    /// the context that is returned decides.
     #[inline(never)]
     pub fn opened_into(key: &[u8], nonce: &[u8], ad: &[&[u8]], source: &[u8], mc: &mut [u8]) -> Self
         requires key_length { length key.now ≡ key_length S.VARIANT.family }

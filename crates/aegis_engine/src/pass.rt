@@ -240,12 +240,13 @@ fn write_xored<S: LaneState>(
     passed
 }
 
-// Updates the lanes by one rate block of a buffer: it is copied from `source` if there is one, and xored with the
-// keystream of the lanes before that, and the lanes take in the bytes that `pass` selects.
+// Updates the lanes by one rate block of a buffer. It is copied from `source` if there is one, and xored with the
+// keystream of the lanes before the update. The lanes take in the bytes that `pass` selects.
 //
 // Only the copy of the block is read. So LLVM need not know that a source lies apart from the buffer, and keeps the
-// block in registers. It is written before the update of the rows, which are not needed afterwards. When a block of 16
-// bytes is sealed it is written after that: else x86-64-v2 has too few registers for the constants of the round.
+// block in registers. The result is written before the update, so that the old rows, which give the keystream, need no
+// registers during it. Exception: a block of 16 bytes is sealed after the update, since otherwise x86-64-v2 has too few
+// registers for the constants of the round.
 #[inline(always)]
 fn pass_block<S: LaneState>(
     state: &mut S,
@@ -304,9 +305,9 @@ pub fn absorb_whole<S: LaneState>(state: S, bytes: &[u8], at: usize, count: usiz
     state
 }
 
-/// The lanes after `count` whole rate blocks of a buffer, beginning at place `at`, if no rate block is open: each is
-/// copied from `source` if there is one, and xored with the keystream, and the lanes take in the bytes that `pass`
-/// selects. A block is copied right before its rounds, so that the next ones can be read from memory meanwhile.
+/// The lanes after `count` whole rate blocks of a buffer, beginning at place `at`, if no rate block is open. Each is
+/// copied from `source` if there is one, and xored with the keystream. The lanes take in the bytes that `pass` selects.
+/// A block is copied right before its rounds, so that the processor can read the next ones during them.
 #[inline(always)]
 pub fn pass_whole<S: LaneState>(
     state: S,

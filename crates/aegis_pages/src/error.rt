@@ -9,7 +9,7 @@ pub enum PagesError {
     /// The storage or the journal could not be read, or the storage ends before the page that is wanted.
     #[error("reading: {0}")]
     Read(io::Error),
-    /// The storage or the journal could not be written.
+    /// Writing failed, or memory for the journal ran out, or the journal was not empty or would be too long.
     #[error("writing: {0}")]
     Write(io::Error),
     /// No nonce could be generated.

@@ -143,7 +143,8 @@ fn left_alone(header: Option<FileHeader>) -> PagesError
 /// made again and emptied; so it is also if the file has no header. A torn one is emptied if the file has a header.
 /// Otherwise nothing is changed: the error is [`PagesError::Journal`] for a whole journal of another commit, or one
 /// that does not begin with the beginning of this file's, and [`PagesError::Header`] if the file has no header and the
-/// journal is not whole. A commit and a crash lead to neither, without a forged header or another whole journal.
+/// journal is not whole. A commit of a file whose pages all open, and a crash, lead to neither, without a forged header
+/// or another whole journal.
 ///
 /// The others are [`PagesError::Read`], [`PagesError::Write`] and [`PagesError::OutOfMemory`]. What a commit and a
 /// crash left, another call can still recover.

@@ -150,7 +150,8 @@ impl<
     /// it held before is lost. The journal must be empty.
     ///
     /// Returns [`PagesError::PageSize`], [`PagesError::OutOfMemory`], [`PagesError::Journal`] if the journal is not
-    /// empty, or [`PagesError::Nonce`] before the storage is changed, and [`PagesError::Write`] after it may have been.
+    /// empty, [`PagesError::Read`] if it has no size, or [`PagesError::Nonce`] before the storage is changed, and
+    /// [`PagesError::Write`] after it may have been.
     /// If a crash interrupts it, create the file again.
     pub fn create(
         alloc: A,
@@ -203,7 +204,8 @@ impl<
 
     /// Opens the file that the storage holds, and completes a commit that was cut short, or leaves out all of it, as
     /// [`crate::recover_file`] does, whose errors it returns. So it returns neither [`PagesError::Journal`] nor
-    /// [`PagesError::Header`] after a commit and a crash that left no other whole journal and no forged header.
+    /// [`PagesError::Header`] after a commit of a file whose pages all open, and a crash that left no other whole
+    /// journal and no forged header.
     pub fn open(
         alloc: A,
         mut storage: S,
@@ -383,9 +385,9 @@ impl<
     /// journal, then written to their places, and then the journal is emptied, each with a sync.
     ///
     /// Returns [`PagesError::Broken`], [`PagesError::TooLong`], [`PagesError::Read`], [`PagesError::Nonce`] or
-    /// [`PagesError::OutOfMemory`] before anything is written: the file is as it was. After [`PagesError::Write`] the
-    /// file is broken: reads, changes and commits of a broken one return [`PagesError::Broken`]. Open it again, which
-    /// gives the contents before the changes or those after them.
+    /// [`PagesError::OutOfMemory`] before anything is written: the file is as it was. After [`PagesError::Write`], also
+    /// if only memory for the journal ran out, the file is broken: reads, changes and commits of a broken one return
+    /// [`PagesError::Broken`]. Open it again, which gives the contents before the changes or those after them.
     pub fn commit(&mut self) -> Result<(), PagesError>
         ensures kept { (self.new.layout ≡ self.old.layout) × (self.new.len ≡ self.old.len) }
         ensures counted { OnOk result (self.new.counter ≡ self.old.counter + 1) }

@@ -32,9 +32,11 @@ fn redone<'a>(key: &Key, context: &[u8], journal: &'a [u8]) -> &'a [u8]
 ///
 /// The calls are the steps of [`crate::recovery_step`]. If the journal is a whole one under this key and context, it is
 /// replaced by a synced copy, since an earlier sync may have failed, and its writes are made again. Any other journal,
-/// torn or of another storage, changes nothing. Then the journal is emptied.
+/// torn or of another storage, changes nothing. Then the journal is emptied: under a wrong key or context, so is one
+/// that has the only copy of some writes.
 ///
-/// With `Ok` both are at rest. After an error nothing is lost: call it again. The error is that of a call, or
+/// With `Ok` both are at rest. After an error call it again: it loses nothing of what a commit left, unless the journal
+/// is another whole one. The error is that of a call, or
 /// `OutOfMemory`, or `InvalidData` if the journal has more than [`crate::MAX_STORAGE_BYTES`]. Memory is taken for the
 /// journal, whatever it holds.
 pub fn recover<S: Storage, J: Storage, A: Allocator + Copy>(

@@ -23,7 +23,7 @@ Files:
   Outputs get mode 0600. File names must be UTF-8.
   OUT is first written in its folder as .OUT.hunkravy- and 16 hexadecimal digits,
   and gets its name when it is complete. An interrupted run leaves that file. It may
-  hold plaintext: delete it, unless a run is still writing it. To find all of them:
+  hold plaintext or a key: delete it, unless a run is still writing it. To find all:
   find . -name '.*.hunkravy-*'. Only --force replaces an existing file.
   In a pipeline, seal cannot see that the command before it failed.
   A key file has 64 hexadecimal digits and a line feed. -k - reads the key from

@@ -118,7 +118,7 @@ pub fn refuse_inputs<'a>(
     refuse_inputs_at(rt, paths, keys, name_of(paths.output))
 }
 
-// The same for the file of this name, to which the output leads.
+// The same for a name: that of the output, or of the file that it was found to lead to.
 fn refuse_inputs_at<'a>(
     rt: &HostRuntime,
     paths: Transfer<'a>,
@@ -432,8 +432,8 @@ impl<'a> Part<'a> {
         }
     }
 
-    /// Returns an error if the file to be replaced is the input or one of the key files: the output may be a link that
-    /// was changed after the first look.
+    /// Returns an error as the function `refuse_inputs` does, but for the file to be replaced: the output may be a link
+    /// that was changed after the first look.
     pub fn refuse_inputs(
         &self,
         rt: &HostRuntime,
