@@ -627,9 +627,13 @@ static int add_to_commitment(hunkravy_file *file, hunkravy_state *state, uint8_t
     TRY(hunkravy_mac_init(file->variant, state, nonce, file->key_bytes, file->key, file->key_bytes));
     TRY(hunkravy_mac_update(state, start, 9 + HUNKRAVY_PAGE_ID_BYTES));
     TRY(hunkravy_mac_update(state, numbers, sizeof numbers));
-    for (file->damaged = 0; file->damaged < count; file->damaged++) {
-        uint64_t end = hunkravy_page_place(file->variant, file->page_size, file->damaged) + file->page_bytes;
-        TRY(file->storage.read(file->storage.context, HUNKRAVY_PART_FILE, end - TAG_BYTES, tag, TAG_BYTES));
+    for (uint64_t number = 0; number < count; number++) {
+        uint64_t end = hunkravy_page_place(file->variant, file->page_size, number) + file->page_bytes;
+        int code = file->storage.read(file->storage.context, HUNKRAVY_PART_FILE, end - TAG_BYTES, tag, TAG_BYTES);
+        if (code == HUNKRAVY_DAMAGED_PAGE) {
+            file->damaged = number;
+        }
+        TRY(code);
         TRY(hunkravy_mac_update(state, tag, TAG_BYTES));
     }
     return hunkravy_mac_final(state, mac, HUNKRAVY_FILE_COMMITMENT_BYTES);

@@ -157,26 +157,29 @@ static uint64_t unchanged_pages(const hunkravy_file *file, uint64_t number, uint
 static int read_pages(hunkravy_file *file, uint64_t number, uint64_t count)
 {
     size_t found = (size_t)unchanged_pages(file, number, least(count, file->room)), length = file->page_bytes;
+    size_t opened = 0;
     uint64_t place = hunkravy_page_place(file->variant, file->page_size, number);
     int code;
     file->shown_count = 0;
-    file->damaged = number;
     code = file->storage.read(file->storage.context, HUNKRAVY_PART_FILE, place, file->shown, found * length);
     if (code == HUNKRAVY_DAMAGED_PAGE && found > 1) {
         /* The file ends in one of them. */
         return read_pages(file, number, 1);
     }
-    for (size_t i = 0; code == HUNKRAVY_OK && i < found; i++) {
-        uint8_t *page = file->shown + i * length;
-        if (hunkravy_page_open(file->variant, page, length, file->id, number + i, file->key, file->key_bytes) !=
+    while (code == HUNKRAVY_OK && opened < found) {
+        uint8_t *page = file->shown + opened * length;
+        if (hunkravy_page_open(file->variant, page, length, file->id, number + opened, file->key, file->key_bytes) ==
             HUNKRAVY_OK) {
-            file->damaged = number + i;
+            opened++;
+        } else {
             code = HUNKRAVY_DAMAGED_PAGE;
         }
     }
     if (code == HUNKRAVY_OK) {
         file->shown_first = number;
         file->shown_count = found;
+    } else if (code == HUNKRAVY_DAMAGED_PAGE) {
+        file->damaged = number + opened;
     }
     return code;
 }

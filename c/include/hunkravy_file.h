@@ -13,6 +13,8 @@
  * A commit first writes its changes to the journal, the file PATH.journal, and at its end removes it. Opening completes a
  * commit that was interrupted, or discards all of it. `raf` in Rust, RandomAccessFile in Python and the proved crate
  * `aegis_pages` read and write the same files. FORMATS.md has the format, and RANDOM-ACCESS.md what a crash may leave.
+ * PATH.journal and PATH.jrncopy belong to the file, whose PATH is the one without links: opening may replace or remove
+ * them, and removes a PATH.journal of up to 512 bytes, whatever it holds.
  *
  * BATCHES. A batch combines several changes into one. It means the same in C, Python and Rust:
  *
@@ -31,7 +33,8 @@
  *
  * RESULTS. A function that is marked HUNKRAVY_MUST_USE returns HUNKRAVY_OK, a code of hunkravy.h (negative), or an error
  * number of the system, such as ENOSPC (positive). hunkravy_file_error_text has a message for each. After ENOMEM nothing
- * has changed, unless the function's comment says so. These codes are of files:
+ * has changed, unless the function's comment says so. EINVAL means that PATH.journal is not a regular file, has several
+ * names, or can be written by others than the file. These codes are of files:
  *
  * - HUNKRAVY_NO_FILE: there is no header of this variant and key. The key is wrong, or the file is empty, damaged or
  *   another. If there is no file at the path, the error is ENOENT.
@@ -43,7 +46,7 @@
  *   kept from commits, by its number.
  * - HUNKRAVY_FILE_MOVED: the file was renamed, removed or replaced, or has several hard links: its journal would not be
  *   found.
- * - HUNKRAVY_FILE_BROKEN: an earlier commit has failed, and may be in the file in part. Open the file again.
+ * - HUNKRAVY_FILE_BROKEN: an earlier commit has failed, and may be in the file in part. Close the file, and open it again.
  * - HUNKRAVY_OPEN_BATCH: a batch has not ended.
  *
  * THREADS. Use a file from one thread at a time. Exception: hunkravy_file_check may be called from any. Do not cancel a
@@ -73,14 +76,14 @@ HUNKRAVY_MUST_USE int hunkravy_file_create(hunkravy_file **file, const char *pat
 /*
  * Opens and locks the file at a path, and completes a commit that was interrupted, or discards all of it. After an error
  * `*file` is null. After any of the codes above nothing has changed. Exception: HUNKRAVY_NO_FILE may follow a journal that
- * was made with the key and has no header in it. After an error of the system, open the file again.
+ * was made with the key and has no header in it. After another error of the system than EINVAL, open the file again.
  */
 HUNKRAVY_MUST_USE int hunkravy_file_open(hunkravy_file **file, const char *path, uint32_t variant, const uint8_t *k,
     size_t klen) HUNKRAVY_NONNULL(1, 2);
 
 /*
- * Commits the changes, and frees the file, also after an error. A process that did not open the file only frees it. A null
- * pointer is no file, and the result is HUNKRAVY_OK.
+ * Commits the changes, and frees the file, also after an error. A process that did not open the file only frees it: its
+ * storage is closed, and must not unlock it for the other one. A null pointer is no file, and the result is HUNKRAVY_OK.
  *
  * Nothing is committed, and the result is the reason's code, if a batch is open or if the file is broken. The same holds
  * if a change or a commit has failed and none has been committed since: the pending changes may be a part of what was
@@ -102,17 +105,20 @@ HUNKRAVY_MUST_USE int hunkravy_file_read(hunkravy_file *file, uint64_t offset, v
 /*
  * Writes over the contents from `offset` on. Zeros fill a gap in front, also if `datalen` is 0. The change stays in memory.
  * Outside a batch a write after which more than 16 MiB of pages are changed commits. After an error nothing has changed,
- * unless it is one of that commit: then the change is made, and pending.
+ * unless it is one of that commit: then the change is made, and pending. EINVAL is for a null `data` with a length.
  */
 HUNKRAVY_MUST_USE int hunkravy_file_write(hunkravy_file *file, uint64_t offset, const void *data, size_t datalen)
     HUNKRAVY_NONNULL(1);
 
-/* Truncates the contents, or extends them with zeros. The file itself does not become shorter. */
+/*
+ * Truncates the contents, or extends them with zeros, as a write of these does: they take memory, and may cause a commit.
+ * The file itself does not become shorter.
+ */
 HUNKRAVY_MUST_USE int hunkravy_file_truncate(hunkravy_file *file, uint64_t size) HUNKRAVY_NONNULL(1);
 
 /*
  * Writes all changes, so that after a crash all of them are there, or none; after HUNKRAVY_OK they are. Without changes
- * nothing is written. After an error the changes are still pending, and nothing else has changed, unless the file is
+ * nothing is written. After an error the changes are still pending, and at most the file has become longer, unless it is
  * broken (hunkravy_file_check): then opening it again gives the contents before the changes or after them.
  */
 HUNKRAVY_MUST_USE int hunkravy_file_commit(hunkravy_file *file) HUNKRAVY_NONNULL(1);
@@ -140,17 +146,18 @@ void hunkravy_file_set_limit(hunkravy_file *file, uint64_t limit) HUNKRAVY_NONNU
 
 /*
  * Writes a MAC under the key, of HUNKRAVY_FILE_COMMITMENT_BYTES, of the state at the last commit: with an older page or
- * header it is different. Keep it where nobody can roll it back together with the file. It reads the tag of each page.
+ * header it is different. Keep it where nobody can roll it back together with the file. It reads the tag of each page, and
+ * verifies none. The header is that which opening has read, or the last commit has written.
  */
 HUNKRAVY_MUST_USE int hunkravy_file_commitment(hunkravy_file *file, uint8_t *mac) HUNKRAVY_NONNULL(1, 2);
 
 /* Returns HUNKRAVY_OK, HUNKRAVY_FILE_LOCKED in a process that was forked, or HUNKRAVY_FILE_BROKEN. */
 HUNKRAVY_MUST_USE int hunkravy_file_check(const hunkravy_file *file) HUNKRAVY_NONNULL(1);
 
-/* The number of the page that was found damaged last. */
+/* The number of the page that was found damaged last, or 0 if none was. */
 uint64_t hunkravy_file_damaged_page(const hunkravy_file *file) HUNKRAVY_NONNULL(1);
 
-/* Returns the message of a code or of an error number of the system, in English. */
+/* Returns the message of a code, in English, or that of strerror for an error number of the system. */
 const char *hunkravy_file_error_text(int code);
 
 /* ---- Files in another storage than files of the system */
@@ -195,7 +202,10 @@ struct hunkravy_storage {
     void (*close)(void *context);
 };
 
-/* Like hunkravy_file_create, in an empty storage. It is closed with the file, and after an error. */
+/*
+ * Like hunkravy_file_create, in an empty storage. It is closed with the file, and after an error. After one of the storage
+ * it may have a header: empty it before another call.
+ */
 HUNKRAVY_MUST_USE int hunkravy_file_create_in(hunkravy_file **file, const struct hunkravy_storage *storage,
     uint32_t variant, const uint8_t *k, size_t klen, uint32_t page_size) HUNKRAVY_NONNULL(1, 2);
 

@@ -443,9 +443,37 @@ static void check_system(void)
     HOLDS(unlink(path) == 0 && rmdir(folder) == 0);
 }
 
+/* The number of a damaged page stays until another one is found. */
+static void check_damaged(void)
+{
+    static uint8_t contents[3 * 4032];
+    char folder[] = "/tmp/check_file-XXXXXX", path[80];
+    off_t place = (off_t)hunkravy_page_place(HUNKRAVY_AEGIS256, 4032, 1);
+    uint8_t byte, mac[HUNKRAVY_FILE_COMMITMENT_BYTES];
+    hunkravy_file *file;
+    size_t length;
+    int fd;
+
+    HOLDS(mkdtemp(folder) != NULL);
+    snprintf(path, sizeof path, "%s/file", folder);
+    HOLDS(hunkravy_file_create(&file, path, HUNKRAVY_AEGIS256, key, sizeof key, 4032) == 0);
+    HOLDS(hunkravy_file_write(file, 0, contents, sizeof contents) == 0 && hunkravy_file_close(file) == 0);
+    fd = open(path, O_RDWR);
+    HOLDS(fd >= 0 && pread(fd, &byte, 1, place) == 1);
+    byte ^= 1;
+    HOLDS(pwrite(fd, &byte, 1, place) == 1 && close(fd) == 0);
+    HOLDS(hunkravy_file_open(&file, path, HUNKRAVY_AEGIS256, key, sizeof key) == 0);
+    HOLDS(hunkravy_file_damaged_page(file) == 0);
+    HOLDS(hunkravy_file_read(file, 4032, contents, 1, &length) == HUNKRAVY_DAMAGED_PAGE);
+    HOLDS(hunkravy_file_read(file, 0, contents, 1, &length) == 0 && length == 1);
+    HOLDS(hunkravy_file_commitment(file, mac) == 0 && hunkravy_file_damaged_page(file) == 1);
+    HOLDS(hunkravy_file_close(file) == 0 && unlink(path) == 0 && rmdir(folder) == 0);
+}
+
 int main(void)
 {
     check_system();
+    check_damaged();
     check_batches();
     check_zeros();
     check_memory();

@@ -133,6 +133,8 @@ class Chunks(variants.Secret):
 class Encryptor(Chunks):
     """A message that is encrypted in chunks, which `Cipher.encryptor` begins.
 
+    After a fork only one of the two processes may go on with it: both have its nonce.
+
     >>> from hunkravy import Aegis128L
     >>> cipher, nonce = Aegis128L(bytes(16)), bytes(16)
     >>> encryptor = cipher.encryptor(nonce)

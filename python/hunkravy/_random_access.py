@@ -46,13 +46,15 @@ class RandomAccessFile(variants.Secret, _native.RandomAccessFile):
     commit that was interrupted, or discards all of it. `create` makes an empty one.
 
     Changes stay in memory until a commit: `commit`, the end of the outermost `batch`, `close`, the end of a `with` block,
-    or outside a batch a write or a growing `truncate` after which more than 16 MiB are changed. **After a crash all
-    changes of a commit are there, or none.** A commit first writes them to the journal, the file `PATH.journal`, and
-    removes it at the end.
+    or outside a batch a write or a growing `truncate` after which more than 16 MiB of pages are changed. **After a crash
+    all changes of a commit are there, or none.** A commit first writes them to the journal, the file `PATH.journal`, and
+    removes it at the end. `PATH.journal` and `PATH.jrncopy` belong to the file: opening may remove them.
 
     The file is locked while it is open, and belongs to the process that opened it. As in `sqlite3` only the thread that
     opened it may use it, unless `check_same_thread` is false. Then calls wait for each other, and threads have to take
-    turns with batches and with positions of streams. Each error is a `RandomAccessError` or an `OSError`.
+    turns with batches and with positions of streams. Errors of the file are `RandomAccessError`, `OSError` or
+    `MemoryError`. Wrong arguments and a closed file raise `ValueError`, `OverflowError` or `TypeError`, and another
+    thread or a lost batch `RuntimeError`.
 
     An exception that leaves a `with` block discards the changes. A file that is dropped without `close` loses them too.
     """

@@ -69,7 +69,7 @@ class RecordSealer(variants.Secret):
     `key` has 32 bytes. `prefix` has 24 bytes, and is used for no other stream under the key: nothing detects that. The
     opener needs the key, the prefix, the context and the header. End each stream with `seal_last`: without it the
     stream is truncated. After a `MemoryError`, or an exception of a signal handler, a record may be lost: begin another
-    stream.
+    stream. After a fork only one of the two processes may go on with it: both have its nonces.
 
     >>> from hunkravy import RecordOpener, RecordSealer
     >>> prefix = RecordSealer.generate_prefix()
@@ -139,7 +139,8 @@ class RecordOpener(variants.Secret, turns.Turns):
     ) -> Self:
         """Begins at record `number`, counted from 0. The messages before it have `before` bytes in total.
 
-        A wrong position raises `RecordError` when the record is opened. The records before it are not verified.
+        A wrong position raises `RecordError` when the record is opened, or `ValueError` at once if no stream has it. The
+        records before it are not verified.
         """
         number, before = operator.index(number), operator.index(before)
         if not (0 <= number < 1 << 64 and 0 <= before < 1 << 64):
@@ -179,7 +180,11 @@ class RecordOpener(variants.Secret, turns.Turns):
             return self._length(view.tobytes())
 
     def open(self, record: _ReadableBuffer) -> bytes:
-        """Returns the message of the next record. More bytes than its head says raise `ValueError`."""
+        """Returns the message of the next record.
+
+        More bytes than its head says raise `ValueError`, and change nothing. Fewer are a truncated stream: collect the
+        whole record first.
+        """
         with self._turn():
             with memoryview(record) as view:
                 data = bytearray(view)

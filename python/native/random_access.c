@@ -641,9 +641,10 @@ static PyMethodDef file_methods[] = {
         "Discards all changes since the last commit, and ends each batch."},
     {"close", file_close, METH_NOARGS,
         "close($self, /)\n--\n\n"
-        "Commits the changes, and closes the file in any case. Commits nothing in a process that did not open\n"
-        "the file; in a batch, with a `RuntimeError`; and after a change or a commit that has failed, whose\n"
-        "exception it raises once more."},
+        "Commits the changes, and closes the file, also after an exception. Commits nothing in a process that\n"
+        "did not open the file; in a batch, with a `RuntimeError`; and after a change or a commit that has\n"
+        "failed, whose exception it raises once more. In a thread that may not use the file it raises\n"
+        "`RuntimeError`, and closes nothing."},
     {"__enter__", file_enter, METH_NOARGS, NULL},
     {"__exit__", file_exit, METH_VARARGS, NULL},
     {NULL, NULL, 0, NULL},

@@ -510,8 +510,13 @@ class Files(unittest.TestCase):
         data = bytearray(self.path.read_bytes())
         data[4096 * 2 + 50] ^= 1
         self.path.write_bytes(data)
+        file = RandomAccessFile(self.path, KEY)
+        self.assertCause("damaged", file.write_at, 5000, b"x")
+        self.assertEqual(file.read_at(0, 4032), bytes(4032))
+        with self.assertRaises(RandomAccessError) as raised:
+            file.close()
+        self.assertEqual(raised.exception.page, 1)
         with RandomAccessFile(self.path, KEY) as file:
-            self.assertEqual(file.read_at(0, 4032), bytes(4032))
             self.assertCause("damaged", file.read_at, 4000, 100)
             self.assertCause("damaged", file.write_at, 5000, b"x")
             file.truncate(4032)

@@ -108,11 +108,13 @@ pub const MAX_SIZE: u64 = 1 << 60;
 /// journal, opening it again gives the contents before the commit or after it.
 ///
 /// A file belongs to the process that opened it. After `fork` these functions return [`Error::Locked`] in any other process, and
-/// dropping does nothing there. `_Fork`, and a `clone` without the C library, are not always noticed: do not use the file in it.
+/// dropping commits nothing there, and drops the storages. `_Fork`, and a `clone` without the C library, are not always noticed:
+/// do not use the file in it.
 ///
 /// If memory runs out, the error is [`Error::Io`] of kind [`OutOfMemory`](std::io::ErrorKind::OutOfMemory), and nothing has
-/// changed. Exceptions: the standard library ends the program if it finds none for the text of an error or for the copy of a path.
-/// Opening copies paths, and so does a commit if the path has more than 300 bytes. Both check first that there are 64 KiB.
+/// changed, except that a write whose commit fails is made, and a batch is undone. The standard library ends the program if it
+/// finds none for the text of an error or for the copy of a path. Opening copies paths, and so does a commit if the path has more
+/// than 300 bytes. Both check first that there are 64 KiB.
 #[must_use]
 pub struct Raf<A: Algorithm, I: RafIo = FileIo, R: RafRng = DefaultRng, J: RafIo = JournalFile> {
     engine: Engine<A, I, R, J>,
@@ -263,7 +265,7 @@ impl<A: Algorithm, I: RafIo, R: RafRng, J: RafIo> Raf<A, I, R, J> {
     ///
     /// # Errors
     ///
-    /// [`Error::Commitment`] if it is not, [`Error::Io`] or [`Error::Broken`].
+    /// [`Error::Commitment`] if it is not, [`Error::Io`], [`Error::Broken`], or [`Error::Locked`] after a fork.
     pub fn verify(&mut self, expected: &[u8; 32]) -> Result<()> {
         self.engine.commitment()?.verify(expected).map_err(|_| Error::Commitment)
     }

@@ -72,8 +72,9 @@ fn is_done(is_last: bool, left: u64, skip: u64) -> bool
 /// sealed file of any contents is rejected only if memory runs out, or with [`FileError::TooLong`]: only if its record
 /// stream has more than [`aegis::MAX_AEAD_BYTES`].
 ///
-/// The context must have at most [`MAX_CONTEXT_BYTES`], and the record must start at byte [`aegis::MAX_AEAD_BYTES`] of
-/// the stream at most. Memory is allocated for one record, as its bytes come.
+/// The context must have at most [`MAX_CONTEXT_BYTES`], the position must be one of the second version, and the record
+/// must start at byte [`aegis::MAX_AEAD_BYTES`] of the stream at most. Memory is allocated for one record, as its bytes
+/// come.
 pub fn open_range<R: Read, W: Write, A: Allocator + Copy>(
     alloc: A,
     key: &Key,

@@ -91,8 +91,8 @@ pub trait RafIo {
         self.sync()
     }
 
-    /// Locks the storage against all others, until it is dropped. It is called once, before anything is written, and before
-    /// anything is read except the size.
+    /// Locks the storage against all others, until it is dropped in this process: a forked one drops it too, and must not unlock
+    /// it. It is called once, before anything is written, and before anything is read except the size.
     ///
     /// The default does nothing: the caller must make sure that nothing else writes the bytes.
     ///
