@@ -1,6 +1,7 @@
 # The commands that a person types. Each folder's own are in its rules.mk.
 .PHONY: run program quick quick-over-the-stand-in check-standin test check-gate check-pages check-mutants check-mutants-rotated
 .SECONDARY:
+.DELETE_ON_ERROR:
 
 SHELL = /bin/bash
 .SHELLFLAGS = -eu -o pipefail -c

@@ -63,7 +63,6 @@ $(OUT)/%/aegis_c.a: FLAGS = $(if $(filter aarch64,$*),--target=$(ARM),--cpu=$*)
 $(OUT)/%/aegis_c.a: $(call sources,aegis_c) crates.txt
 	mkdir -p $(@D)
 	$(call build,aegis_c,$(FLAGS),rt lib $(FLAGS),out/libaegis_c.a)
-	. tools/revision.sh && revision > $(@D)/revision
 
 # The packages that have the tools for ARM.
 $(OUT)/aarch64/aegis_c.a: | gcc-aarch64-linux-gnu
@@ -280,12 +279,13 @@ install: $(LIBRARY) $(SHARED) $(OUT)/hunkravy.3
 	install -D -m 644 $(OUT)/hunkravy.3 "$(DESTDIR)$(PREFIX)/share/man/man3/hunkravy.3"
 	prefix=$$(realpath -m --relative-to="$(DESTDIR)$(LIBRARIES)/pkgconfig" "$(DESTDIR)$(PREFIX)/") && \
 		sed -e 's|@PREFIX@|$(PC_PREFIX)|' -e 's|@LIBRARIES@|$(PC_LIBRARIES)|' -e 's|@VERSION@|$(VERSION)|' \
-			-e "s|@RELATIVE@|$$prefix|" c/include/hunkravy.pc.in \
-		> "$(DESTDIR)$(LIBRARIES)/pkgconfig/hunkravy.pc" && \
+			-e "s|@RELATIVE@|$$prefix|" c/include/hunkravy.pc.in | \
+		install -m 644 /dev/stdin "$(DESTDIR)$(LIBRARIES)/pkgconfig/hunkravy.pc" && \
 		install -D -m 644 c/include/hunkravy-config.cmake "$(DESTDIR)$(CMAKE_FOLDER)/hunkravy-config.cmake" && \
-		echo "get_filename_component(_hunkravy_include \"\$${CMAKE_CURRENT_LIST_DIR}/../../pkgconfig/$$prefix/include\" ABSOLUTE)" \
-		> "$(DESTDIR)$(CMAKE_FOLDER)/hunkravy-include.cmake"
-	sed 's|@VERSION@|$(VERSION)|' c/include/hunkravy-config-version.cmake.in > "$(DESTDIR)$(CMAKE_FOLDER)/hunkravy-config-version.cmake"
+		echo "get_filename_component(_hunkravy_include \"\$${CMAKE_CURRENT_LIST_DIR}/../../pkgconfig/$$prefix/include\" ABSOLUTE)" | \
+		install -m 644 /dev/stdin "$(DESTDIR)$(CMAKE_FOLDER)/hunkravy-include.cmake"
+	sed 's|@VERSION@|$(VERSION)|' c/include/hunkravy-config-version.cmake.in | \
+		install -m 644 /dev/stdin "$(DESTDIR)$(CMAKE_FOLDER)/hunkravy-config-version.cmake"
 
 # Builds and runs the examples that are installed at PREFIX, with what pkg-config returns: over the shared library, and over
 # the static one. With CMake a project asks for no version, or for one. Which version serves which is tested with other numbers.

@@ -33,6 +33,10 @@ check-rust-%: $(OUT)/%/libhunkravy.a
 check-rust-tool: $(TOOL) $(LIBRARY)
 	export HUNKRAVY_TOOL="$(CURDIR)/$<"; $(call CARGO,$(FOLDER)) test --offline --test tool
 
+# The package as one library, with all of its features.
+RUST_LIBRARY = --edition 2024 --crate-name hunkravy --crate-type rlib \
+	$(foreach feature,std raf-core raf,--cfg 'feature="$(feature)"') rust/src/lib.rs
+
 # Runs libFuzzer of clang for FUZZ_SECONDS on what reads files: rust/fuzz.rs, over the library with both levels. It keeps the
 # inputs that it finds below OUT, and begins with them.
 FUZZ_SECONDS = 10
@@ -42,8 +46,7 @@ COVERAGE = -O -C debug-assertions -C passes=sancov-module -C llvm-args=-sanitize
 
 fuzz: $(OUT)/both/libhunkravy.a
 	if ls "$$(clang -print-runtime-dir 2> /dev/null)"/libclang_rt.fuzzer*x86_64.a > /dev/null 2>&1; then \
-		mkdir -p $(FUZZ) && rustc --edition 2024 $(COVERAGE) --crate-name hunkravy --crate-type rlib \
-			$(foreach feature,std raf-core raf,--cfg 'feature="$(feature)"') rust/src/lib.rs -o $(FUZZ)/libhunkravy.rlib && \
+		mkdir -p $(FUZZ) && rustc $(COVERAGE) $(RUST_LIBRARY) -o $(FUZZ)/libhunkravy.rlib && \
 		rustc --edition 2024 $(COVERAGE) --crate-type staticlib --extern hunkravy=$(FUZZ)/libhunkravy.rlib rust/fuzz.rs \
 			-o $(FUZZ)/libfuzz.a && \
 		clang -fsanitize=fuzzer $(FUZZ)/libfuzz.a $< -lpthread -ldl -lm -o $(FUZZ)/fuzz && mkdir -p $(FUZZ)/inputs && \

@@ -27,8 +27,7 @@ $(DISK)/programs/table: $(DISK_SOURCES) $(OUT)/both/libhunkravy.a
 
 $(DISK)/programs/rust: testkit/disk/program.rs $(shell find rust/src -name '*.rs') $(OUT)/both/libhunkravy.a
 	mkdir -p $(@D)
-	rustc --edition 2024 -O --crate-name hunkravy --crate-type rlib \
-		$(foreach feature,std raf-core raf,--cfg 'feature="$(feature)"') rust/src/lib.rs -o $(DISK)/libhunkravy.rlib
+	rustc -O $(RUST_LIBRARY) -o $(DISK)/libhunkravy.rlib
 	rustc --edition 2024 -O --extern hunkravy=$(DISK)/libhunkravy.rlib -C link-arg=$(OUT)/both/libhunkravy.a $< -o $@
 
 $(DISK)/programs/python: testkit/disk/program.py python-package

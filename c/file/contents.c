@@ -289,13 +289,41 @@ static void change_page(const hunkravy_file *file, struct page *page, const stru
     memset(contents + most(to, live), 0, (size_t)(size - most(to, live)));
 }
 
+/* Makes the pages from `first` up to `after` that a change needs and the open batch has not: all of them, or none. */
+static int make_pages(
+    hunkravy_file *file, uint64_t first, uint64_t after, const struct change *change, struct page **made)
+{
+    struct page **last = made;
+    int code = hunkravy_file_has_room(file, after - first) ? HUNKRAVY_OK : ENOMEM;
+    for (uint64_t number = first; code == HUNKRAVY_OK && number < after; number++) {
+        const struct page *own = changed_page(file, number);
+        if (own == NULL || !is_own(file, own)) {
+            code = make_page(file, number, change, last);
+            last = *last == NULL ? last : &(*last)->next;
+        }
+    }
+    if (code != HUNKRAVY_OK) {
+        free_pages(file, *made);
+    }
+    return code;
+}
+
+/* Puts a page that was made in the place of the changed one of its number, if there is one. */
+static void put_page(hunkravy_file *file, struct page *page)
+{
+    struct page **old = link_of(file, page->number);
+    if (old != NULL) {
+        take_page(file, old);
+    }
+    add_page(file, page);
+}
+
 /* Makes a change: all of it, or nothing. */
 static int make_change(hunkravy_file *file, uint64_t offset, const uint8_t *data, size_t length)
 {
     struct change change = {offset, offset + length, data};
     uint64_t first = least(offset, file->size) / file->page_size, after;
-    struct page *made = NULL, **last = &made;
-    int code;
+    struct page *made = NULL;
     if (offset > HUNKRAVY_PAGE_MAX_CONTENTS_BYTES || length > HUNKRAVY_PAGE_MAX_CONTENTS_BYTES - offset) {
         return HUNKRAVY_FILE_TOO_LONG;
     }
@@ -303,31 +331,14 @@ static int make_change(hunkravy_file *file, uint64_t offset, const uint8_t *data
         return HUNKRAVY_OK;
     }
     after = hunkravy_file_page_count(file, change.end);
-    code = hunkravy_file_has_room(file, after - first) ? HUNKRAVY_OK : ENOMEM;
-    for (uint64_t number = first; code == HUNKRAVY_OK && number < after; number++) {
-        const struct page *own = changed_page(file, number);
-        if (own == NULL || !is_own(file, own)) {
-            code = make_page(file, number, &change, last);
-            last = *last == NULL ? last : &(*last)->next;
-        }
-    }
-    if (code != HUNKRAVY_OK) {
-        free_pages(file, made);
-        return code;
-    }
+    TRY(make_pages(file, first, after, &change, &made));
     for (uint64_t number = first; number < after; number++) {
-        struct page *page = made;
-        if (page != NULL && page->number == number) {
-            struct page **old = link_of(file, number);
-            made = page->next;
-            if (old != NULL) {
-                take_page(file, old);
-            }
-            add_page(file, page);
-        } else {
-            page = changed_page(file, number);
+        if (made != NULL && made->number == number) {
+            struct page *next = made->next;
+            put_page(file, made);
+            made = next;
         }
-        change_page(file, page, &change);
+        change_page(file, changed_page(file, number), &change);
     }
     file->size = most(file->size, change.end);
     return HUNKRAVY_OK;

@@ -5,7 +5,8 @@
  *
  * - No pointer is null, even if its length is 0. The macros below pass the address of a byte in the place of one that
  *   may be null.
- * - What a pointer points to is initialised, even if it is only written to.
+ * - What a pointer points to is initialised, if it is read. A buffer of the caller that is only written to may not be: Rust
+ *   asks that of references, but no export reads it first, and the C is compiled apart.
  * - A message and its ciphertext in another buffer are equally long.
  *
  * Callers of the library must ensure the rest, as hunkravy.h says: a pointer points to as many bytes as its length, no

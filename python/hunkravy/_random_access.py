@@ -14,7 +14,7 @@ if TYPE_CHECKING:
 
 CAUSES = {
     "header": "cannot open the header: wrong key or variant, damaged file, or not a random-access file",
-    "journal": "the journal does not belong to this file",
+    "journal": "the journal is of another file, or of another state of this one",
     "damaged": "page {} is damaged",
     "too_long": "the contents would be longer than 2^60 bytes, or no more commits are possible",
     "locked": "the file is already open, here or in another process",

@@ -47,7 +47,6 @@ impl<V: Variant, const TAG_BYTES: usize> Encryptor<V, TAG_BYTES> {
     #[track_caller]
     pub fn update(&mut self, plaintext: &[u8], ciphertext: &mut [u8]) {
         assert_eq!(plaintext.len(), ciphertext.len(), "the buffers must have equal length");
-        assert!(plaintext.len() as u64 <= self.remaining(), "the message is longer than 2^61 - 1 bytes");
         done(exports::state_encrypt(&mut self.state, ciphertext, plaintext));
     }
 

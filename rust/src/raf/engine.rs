@@ -269,19 +269,10 @@ impl<A: Algorithm, I: RafIo, R: RafRng, J: RafIo> Engine<A, I, R, J> {
         writes.extend(once(first).chain(sealed.writes()).chain(once(last)));
         // Below, the standard library allocates copies of long paths.
         check_memory()?;
-        // Not before: sealing may take long, and the file may be moved meanwhile.
-        self.io.check_path()?;
         let new = self.layout.page_place(self.layout.page_count(self.stored));
-        let last = numbers.last().map_or(0, |last| last + 1);
-        let end = self.layout.page_place(last);
-        if end > new {
-            // Nobody could make the writes of a journal without room, and so the file would not open.
-            self.io.reserve(new, end)?;
-        }
-        self.journal.check_path()?;
-        if self.journal.get_size()? != 0 {
-            return Err(Error::Journal);
-        }
+        let end = self.layout.page_place(numbers.last().map_or(0, |last| last + 1));
+        // Not before: sealing may take long, and the file may be moved meanwhile.
+        prepare(&mut self.io, &mut self.journal, new..end)?;
         let mut work = Work {
             io: &mut self.io,
             journal: &mut self.journal,
@@ -430,6 +421,20 @@ impl<A: Algorithm, I: RafIo, R: RafRng, J: RafIo> Engine<A, I, R, J> {
             mac.update(&tag);
         }
         Ok(mac)
+    }
+}
+
+/// Checks that the writes of a commit can be made, with room for new pages, and that no other journal is there.
+fn prepare(io: &mut impl RafIo, journal: &mut impl RafIo, room: Range<u64>) -> Result<()> {
+    io.check_path()?;
+    if !room.is_empty() {
+        // Nobody could make the writes of a journal without room, and so the file would not open.
+        io.reserve(room.start, room.end)?;
+    }
+    journal.check_path()?;
+    match journal.get_size()? {
+        0 => Ok(()),
+        _ => Err(Error::Journal),
     }
 }
 

@@ -60,7 +60,7 @@ impl fmt::Display for Error {
             Error::Io(error) => return error.fmt(f),
             Error::Damaged(page) => return write!(f, "page {page} is damaged"),
             Error::Header => "cannot open the header: wrong key or algorithm, damaged file, or not a raf file",
-            Error::Journal => "the journal does not belong to this file",
+            Error::Journal => "the journal is of another file, or of another state of this one",
             Error::TooLong => "the contents are too long, or no more commits are possible",
             Error::ChunkSize => "the chunk size must be 256 to 65,536 bytes",
             Error::ContextTooLong => "the context is longer than 120 bytes (16-byte key) or 72 (32-byte key)",

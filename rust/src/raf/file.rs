@@ -39,18 +39,11 @@ impl FileIo {
     /// from [`File::try_clone`], shares the lock: do not open a second [`Raf`](super::Raf) on it.
     #[must_use]
     pub fn new(file: File) -> Self {
-        Self::of(file, None)
+        Self::of(file, None, Process::this().ok())
     }
 
-    fn of(file: File, path: Option<PathBuf>) -> Self {
-        FileIo {
-            file,
-            is_name_synced: path.is_none(),
-            path,
-            owner: Process::this().ok(),
-            is_locked: false,
-            is_unfinished: false,
-        }
+    fn of(file: File, path: Option<PathBuf>, owner: Option<Process>) -> Self {
+        FileIo { file, is_name_synced: path.is_none(), path, owner, is_locked: false, is_unfinished: false }
     }
 
     /// Opens the file at a path, and creates it if there is none. Its contents are kept.
@@ -82,7 +75,9 @@ impl FileIo {
         check_memory()?;
         // Another thread may change the working folder.
         let path = &std::path::absolute(path)?;
-        Ok(Self::of(open(options, path)?, Some(resolved(path)?)))
+        // What may fail comes before: an error leaves no new file.
+        let (owner, resolved) = (Process::this()?, resolved(path)?);
+        Ok(Self::of(open(options, path)?, Some(resolved), Some(owner)))
     }
 
     /// Returns whether this process has opened it.
@@ -181,7 +176,9 @@ impl Drop for FileIo {
             return;
         }
         if let (Some(path), true) = (&self.path, self.is_unfinished) {
-            if self.check_name().is_ok() {
+            // Before it is locked another program may take it, and write to it.
+            let is_own = self.is_locked || self.file.metadata().is_ok_and(|found| is_empty(&found));
+            if is_own && self.check_name().is_ok() {
                 let _ = fs::remove_file(path);
             }
         }
@@ -560,15 +557,32 @@ pub mod tests {
         }
     }
 
-    /// A new file in which another program has written before it was locked is not removed.
+    /// A new file in which another program has written before it was locked, or that was never locked, is not removed.
     #[test]
     fn a_new_file_of_another_program() {
+        for is_locked in [true, false] {
+            let Paths(path, _) = &Paths::new("taken");
+            let mut io = FileIo::create_new(path).unwrap();
+            fs::write(path, b"precious").unwrap();
+            if is_locked {
+                io.lock().unwrap();
+            }
+            drop(io);
+            assert_eq!(fs::read(path).unwrap(), b"precious");
+        }
         let Paths(path, _) = &Paths::new("taken");
-        let mut io = FileIo::create_new(path).unwrap();
-        fs::write(path, b"precious").unwrap();
+        drop(FileIo::create_new(path).unwrap());
+        assert!(!path.exists());
+    }
+
+    /// A file that is made through a link is known by its own path.
+    #[test]
+    fn a_new_file_through_a_link() {
+        let (Paths(path, _), Paths(link, _)) = (&Paths::new("led-to"), &Paths::new("link"));
+        symlink(path, link).unwrap();
+        let mut io = FileIo::create(link).unwrap();
         io.lock().unwrap();
-        drop(io);
-        assert_eq!(fs::read(path).unwrap(), b"precious");
+        assert_eq!(io.journal_path(), Some(with_journal(&path.canonicalize().unwrap())));
     }
 
     /// A new journal is for its owner alone until it has the mode of its file. It takes no other file and follows no link. Opening

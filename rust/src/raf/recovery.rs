@@ -1,10 +1,10 @@
 //! Opening a file and its journal: completing a commit that was interrupted.
 
 use super::io::RafIo;
-use super::journal::{BEGINNING_BYTES, NONCE_BYTES, Neighbours, Work};
+use super::journal::{BEGINNING_BYTES, Neighbours, Work};
 use super::journal::{checked_writes, journaled_writes};
-use super::layout::{HEADER_BLOCK_BYTES, Layout, PageHeader, open_header};
-use super::{Algorithm, Error, Result, default_chunk_size};
+use super::layout::{HEADER_BLOCK_BYTES, PageHeader, open_header};
+use super::{Algorithm, Error, Result};
 use crate::exports::{Refusal, State, hunkravy_recovery_step};
 use crate::memory::{with_room, zeros};
 use alloc::vec::Vec;
@@ -13,8 +13,8 @@ use std::io;
 /// A journal that does not begin as those of its file do is read if it has no more bytes: a larger file of its name may have
 /// more than the memory.
 const MOST_FOREIGN_BYTES: u64 = 64 << 20;
-/// How many bytes the beginnings of all journals of an algorithm have in common.
-const COMMON_BYTES: usize = 5;
+/// What each journal begins with.
+const MARK: &[u8] = b"AGJ1";
 
 /// What a file begins with.
 struct FileStart {
@@ -29,24 +29,24 @@ impl FileStart {
         Ok(FileStart { block, header })
     }
 
-    /// Returns whether a journal begins as those of this file do. If the file has no header, those of any file will do.
-    fn is_of<A: Algorithm>(&self, key: &A::Key, found: &[u8]) -> bool {
-        let any = PageHeader { page_size: default_chunk_size::<A>(), ..PageHeader::default() };
-        let known = match self.header {
-            Some(_) => BEGINNING_BYTES,
-            None => COMMON_BYTES,
-        };
-        let own = Layout::<A>::of(key, self.header.as_ref().unwrap_or(&any)).journal(&[0; NONCE_BYTES]);
-        found.starts_with(&own.start[..known])
+    /// Returns the part of a journal that has the writes to be made again. A torn journal has none.
+    fn writes_in<'j, A: Algorithm>(&self, key: &A::Key, journal: &'j [u8]) -> Result<&'j [u8]> {
+        let file = self.block.as_ref().map_or(&[][..], |block| block);
+        checked_writes::<A>(file, key, journal).map_err(|refusal| match refusal {
+            Refusal::WRONG_JOURNAL => Error::Journal,
+            _ => Error::Header,
+        })
     }
 
     /// Reads the journal.
     fn read_journal<A: Algorithm>(&self, journal: &mut impl RafIo, key: &A::Key) -> Result<Vec<u8>> {
         if journal.get_size()? > MOST_FOREIGN_BYTES {
-            let mut first = [0; BEGINNING_BYTES];
+            // This much of it is a torn journal. One of a file without a header may be whole.
+            let mut first = [0; BEGINNING_BYTES + 1];
             journal.read_at(&mut first, 0)?;
-            if !self.is_of::<A>(key, &first) {
-                return Err(self.header.as_ref().map_or(Error::Header, |_| Error::Journal));
+            match self.writes_in::<A>(key, &first) {
+                Err(Error::Header) if first.starts_with(MARK) => (),
+                checked => drop(checked?),
             }
         }
         let size = usize::try_from(journal.get_size()?);
@@ -73,12 +73,7 @@ pub fn recover<A: Algorithm>(io: &mut impl RafIo, journal: &mut impl RafIo, key:
     }
     let start = FileStart::read::<A>(io, key)?;
     let content = start.read_journal::<A>(journal, key)?;
-    let file = start.block.as_ref().map_or(&[][..], |block| block);
-    let writes = match checked_writes::<A>(file, key, &content) {
-        Ok(writes) => writes,
-        Err(Refusal::WRONG_JOURNAL) => return Err(Error::Journal),
-        Err(_) => return Err(Error::Header),
-    };
+    let writes = start.writes_in::<A>(key, &content)?;
     let mut again = with_room(journaled_writes(writes).count())?;
     again.extend(journaled_writes(writes));
     let mut state = State::ENDED;

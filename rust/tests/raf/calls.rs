@@ -286,7 +286,7 @@ fn errors() {
     let texts = "\
 No such file or directory (os error 2)
 cannot open the header: wrong key or algorithm, damaged file, or not a raf file
-the journal does not belong to this file
+the journal is of another file, or of another state of this one
 page 70 is damaged
 the contents are too long, or no more commits are possible
 the chunk size must be 256 to 65,536 bytes
