@@ -154,7 +154,8 @@ class Files(unittest.TestCase):
             1 / 0
         file = RandomAccessFile(self.path, KEY)
         file.write_at(0, b"lost")
-        del file
+        with self.assertWarnsRegex(ResourceWarning, "was not closed: its changes are lost$"):
+            del file
         self.assertEqual(contents(self.path), b"first")
 
     def test_the_table_of_batches(self) -> None:
