@@ -12,7 +12,7 @@ Case = dict[str, str]
 # What an answer begins with, for each error.
 PAGES = {
     "header": "no header for this variant and key",
-    "journal": "the journal is of another file, or of another state of this one",
+    "journal": "the journal does not belong to this file",
     "damaged": "page {} is damaged",
     "missing": "reading: unexpected end of file",
 }

@@ -34,7 +34,7 @@ pub enum PagesError {
     #[error("the file differs from its commitment")]
     Commitment,
     /// The journal is that of another file, or of another state of this one.
-    #[error("the journal is of another file, or of another state of this one")]
+    #[error("the journal does not belong to this file")]
     Journal,
     /// A commit failed. Open the file again.
     #[error("a commit failed: open the file again")]
