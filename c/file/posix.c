@@ -62,7 +62,13 @@ int hunkravy_hold_descriptors(void)
 
 static int open_above(const char *path, int flags, mode_t mode)
 {
-    return hunkravy_hold_descriptors() != 0 ? -1 : open(path, flags | O_CLOEXEC, mode);
+    int fd = -1;
+    if (hunkravy_hold_descriptors() == 0) {
+        do {
+            fd = open(path, flags | O_CLOEXEC, mode);
+        } while (fd < 0 && errno == EINTR);
+    }
+    return fd;
 }
 
 /* Fills `in` from a file, or writes `out` to it if `in` is null: all of the bytes. */
@@ -86,6 +92,16 @@ static int transfer(int fd, uint8_t *in, const uint8_t *out, size_t length, uint
 static int put(int fd, const uint8_t *bytes, size_t length, uint64_t place)
 {
     return transfer(fd, NULL, bytes, length, place);
+}
+
+static int cut(int fd, uint64_t size)
+{
+    while (ftruncate(fd, (off_t)size) != 0) {
+        if (errno != EINTR) {
+            return errno;
+        }
+    }
+    return 0;
 }
 
 static int sync_fd(int fd)
@@ -128,8 +144,8 @@ struct posix {
     struct process owner;
     int file, journal;
     int is_locked, is_name_synced, is_journal_name_synced;
-    /* Whether the file was made, and has no header yet. Then it is removed if it is closed. */
-    int is_unfinished;
+    /* Whether the file was made, and has no header yet. Then it is removed if it is closed, unless another program wrote it. */
+    int is_unfinished, is_written;
     /* The paths, with no links in them: of the file, its journal, the copy of that, and the folder. */
     char *path, *journal_path, *copy_path, *folder_path;
     char paths[];
@@ -181,8 +197,6 @@ static int system_lock(void *context)
         return errno == EWOULDBLOCK ? HUNKRAVY_FILE_LOCKED : errno;
     }
     posix->is_locked = 1;
-    /* Nor is it if another program has written to it, and closed it. */
-    posix->is_unfinished = posix->is_unfinished && is_empty(posix->file);
     return check_name(posix);
 }
 
@@ -384,7 +398,7 @@ static int empty_again(struct posix *posix)
         TRY(remove_empty(posix));
         return sync_folder(posix);
     }
-    return ftruncate(posix->journal, 0) == 0 ? 0 : errno;
+    return cut(posix->journal, 0);
 }
 
 /* Syncs the journal and its name. If it is empty it is then removed, if it can be. */
@@ -434,8 +448,10 @@ static int system_read(void *context, enum hunkravy_part part, uint64_t place, u
 
 static int system_write(void *context, enum hunkravy_part part, uint64_t place, const uint8_t *bytes, size_t length)
 {
+    struct posix *posix = context;
     int fd;
-    TRY(fd_of(context, part, &fd));
+    TRY(fd_of(posix, part, &fd));
+    posix->is_written = posix->is_written || part == HUNKRAVY_PART_FILE;
     return fd < 0 ? EBADF : put(fd, bytes, length, place);
 }
 
@@ -454,11 +470,12 @@ static int system_size(void *context, enum hunkravy_part part, uint64_t *size)
     return 0;
 }
 
+/* Opens no journal: one that was not read may have the only copy of a commit. */
 static int system_resize(void *context, enum hunkravy_part part, uint64_t size)
 {
-    int fd;
-    TRY(fd_of(context, part, &fd));
-    return fd >= 0 && ftruncate(fd, (off_t)size) != 0 ? errno : 0;
+    const struct posix *posix = context;
+    int fd = part == HUNKRAVY_PART_FILE ? posix->file : posix->journal;
+    return fd < 0 ? 0 : cut(fd, size);
 }
 
 static int system_sync(void *context, enum hunkravy_part part)
@@ -503,8 +520,8 @@ static void system_close(void *context)
     struct posix *posix = context;
     /* A process that was forked shares the lock, and may keep another descriptor of the file. */
     if (hunkravy_file_is_this(&posix->owner)) {
-        /* Before it is locked another program may take it, and write to it. */
-        if (posix->is_unfinished && (posix->is_locked || is_empty(posix->file)) && check_name(posix) == 0) {
+        /* Until then another program may write to it, also if it is locked. */
+        if (posix->is_unfinished && (posix->is_written || is_empty(posix->file)) && check_name(posix) == 0) {
             unlink(posix->path);
         }
         if (posix->is_locked) {
@@ -552,6 +569,17 @@ static char *absolute(const char *path)
     return whole;
 }
 
+/* Removes a new file, if it is empty and still has its name. */
+static void remove_new(const char *path, int file)
+{
+    struct stat own, found;
+    int is_there;
+    if (is_empty(file) && look(file, &own) == 0 && find(path, &found, &is_there) == 0 && is_there &&
+        is_same(&own, &found)) {
+        unlink(path);
+    }
+}
+
 /* Opens a file at an absolute path, or makes one, with its paths. */
 static int open_with_paths(struct posix **posix, const char *path, int is_new)
 {
@@ -566,7 +594,7 @@ static int open_with_paths(struct posix **posix, const char *path, int is_new)
     }
     code = errno;
     if (is_new) {
-        unlink(path);
+        remove_new(path, file);
     }
     close(file);
     return code;

@@ -68,7 +68,8 @@ typedef struct hunkravy_file hunkravy_file;
 
 /*
  * Creates an empty file at a path where there is none, and opens it. `page_size` is from 256 to 65,536 bytes, or 0: then
- * a page fills a block of 4,096 bytes. After an error there is no new file, and `*file` is null.
+ * a page fills a block of 4,096 bytes. After an error `*file` is null, and there is no new file, unless another program has
+ * opened it meanwhile, written to it, or given it another name.
  */
 HUNKRAVY_MUST_USE int hunkravy_file_create(hunkravy_file **file, const char *path, uint32_t variant, const uint8_t *k,
     size_t klen, uint32_t page_size) HUNKRAVY_NONNULL(1, 2);

@@ -467,13 +467,48 @@ static void check_damaged(void)
     HOLDS(hunkravy_file_read(file, 4032, contents, 1, &length) == HUNKRAVY_DAMAGED_PAGE);
     HOLDS(hunkravy_file_read(file, 0, contents, 1, &length) == 0 && length == 1);
     HOLDS(hunkravy_file_commitment(file, mac) == 0 && hunkravy_file_damaged_page(file) == 1);
+    HOLDS(hunkravy_file_read(file, 4032, contents, 1, &length) == HUNKRAVY_DAMAGED_PAGE);
+    HOLDS(hunkravy_file_close(file) == 0 && truncate(path, place + 5000) == 0);
+    HOLDS(hunkravy_file_open(&file, path, HUNKRAVY_AEGIS256, key, sizeof key) == 0);
+    HOLDS(hunkravy_file_commitment(file, mac) == HUNKRAVY_DAMAGED_PAGE && hunkravy_file_damaged_page(file) == 2);
     HOLDS(hunkravy_file_close(file) == 0 && unlink(path) == 0 && rmdir(folder) == 0);
+}
+
+static int compare_nonces(const void *one, const void *other)
+{
+    return memcmp(one, other, HUNKRAVY_AEGIS256_KEY_BYTES);
+}
+
+/* The nonces of a commit differ, of however many pages. */
+static void check_nonces(void)
+{
+    enum { PAGES = 9000, PAGE = 256 };
+    static uint8_t contents[PAGES * PAGE], nonces[PAGES][HUNKRAVY_AEGIS256_KEY_BYTES];
+    char folder[] = "/tmp/check_file-XXXXXX", path[80];
+    hunkravy_file *file;
+    int fd;
+
+    HOLDS(mkdtemp(folder) != NULL);
+    snprintf(path, sizeof path, "%s/file", folder);
+    HOLDS(hunkravy_file_create(&file, path, HUNKRAVY_AEGIS256, key, sizeof key, PAGE) == 0);
+    HOLDS(hunkravy_file_write(file, 0, contents, sizeof contents) == 0 && hunkravy_file_close(file) == 0);
+    fd = open(path, O_RDONLY);
+    for (uint64_t i = 0; i < PAGES; i++) {
+        off_t place = (off_t)hunkravy_page_place(HUNKRAVY_AEGIS256, PAGE, i);
+        HOLDS(pread(fd, nonces[i], sizeof nonces[i], place) == (ssize_t)sizeof nonces[i]);
+    }
+    HOLDS(close(fd) == 0 && unlink(path) == 0 && rmdir(folder) == 0);
+    qsort(nonces, PAGES, sizeof nonces[0], compare_nonces);
+    for (size_t i = 1; i < PAGES; i++) {
+        HOLDS(compare_nonces(nonces[i - 1], nonces[i]) != 0);
+    }
 }
 
 int main(void)
 {
     check_system();
     check_damaged();
+    check_nonces();
     check_batches();
     check_zeros();
     check_memory();

@@ -81,10 +81,34 @@ static int has_precious(const char *path)
     return is_there && close(fd) == 0 && memcmp(found, precious, sizeof precious) == 0;
 }
 
+static int write_precious_to(const char *name)
+{
+    int fd = open(name, O_WRONLY | O_CREAT, 0600);
+    HOLDS(fd >= 0 && write(fd, precious, sizeof precious) == sizeof precious && close(fd) == 0);
+    return 0;
+}
+
 static int write_precious(void)
 {
-    int fd = open(path, O_WRONLY | O_CREAT, 0600);
-    HOLDS(fd >= 0 && write(fd, precious, sizeof precious) == sizeof precious && close(fd) == 0);
+    return write_precious_to(path);
+}
+
+/* The name of the journal. */
+static const char *journal_path(void)
+{
+    static char name[sizeof path + 8];
+    snprintf(name, sizeof name, "%s.journal", path);
+    return name;
+}
+
+static int write_journal(void)
+{
+    return write_precious_to(journal_path());
+}
+
+static int write_journal_later(void)
+{
+    meanwhile = write_journal;
     return 0;
 }
 
@@ -134,6 +158,19 @@ static void check_creations(void)
         syncs_left = left;
     }
     syncs_left = ALL;
+}
+
+/* Opening empties no journal that it has not read: here one that appears at its first sync. */
+static void check_openings(void)
+{
+    hunkravy_file *file;
+    HOLDS(hunkravy_file_create(&file, path, HUNKRAVY_AEGIS256, key, sizeof key, 0) == 0);
+    HOLDS(hunkravy_file_close(file) == 0);
+    meanwhile = write_journal_later;
+    HOLDS(hunkravy_file_open(&file, path, HUNKRAVY_AEGIS256, key, sizeof key) == HUNKRAVY_WRONG_JOURNAL);
+    HOLDS(meanwhile == NULL && has_precious(journal_path()));
+    HOLDS(unlink(journal_path()) == 0 && unlink(path) == 0);
+    calls[0] = '\0';
 }
 
 static void expect_calls(const char *expected)
@@ -281,6 +318,7 @@ int main(void)
     HOLDS(mkdtemp(folder) != NULL);
     snprintf(path, sizeof path, "%s/file", folder);
     check_creations();
+    check_openings();
     check_order();
     check_signals();
     check_commits_that_fail();

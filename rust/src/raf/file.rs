@@ -28,6 +28,7 @@ pub struct FileIo {
     is_locked: bool,
     /// Whether the file was made for this one, and has no header yet. Dropping then removes it.
     is_unfinished: bool,
+    is_written: bool,
 }
 
 impl FileIo {
@@ -43,7 +44,7 @@ impl FileIo {
     }
 
     fn of(file: File, path: Option<PathBuf>, owner: Option<Process>) -> Self {
-        FileIo { file, is_name_synced: path.is_none(), path, owner, is_locked: false, is_unfinished: false }
+        FileIo { file, is_name_synced: path.is_none(), path, owner, is_locked: false, is_unfinished: false, is_written: false }
     }
 
     /// Opens the file at a path, and creates it if there is none. Its contents are kept.
@@ -104,6 +105,7 @@ impl RafIo for FileIo {
     }
 
     fn write_at(&mut self, data: &[u8], offset: u64) -> io::Result<()> {
+        self.is_written = true;
         self.file.write_all_at(data, offset)
     }
 
@@ -147,9 +149,6 @@ impl RafIo for FileIo {
             return Err(error);
         }
         self.is_locked = true;
-        // Nor is it new if another program has written to it, and closed it.
-        let found = self.file.metadata();
-        self.is_unfinished &= found.is_ok_and(|found| is_empty(&found));
         self.check_name()
     }
 
@@ -176,8 +175,8 @@ impl Drop for FileIo {
             return;
         }
         if let (Some(path), true) = (&self.path, self.is_unfinished) {
-            // Before it is locked another program may take it, and write to it.
-            let is_own = self.is_locked || self.file.metadata().is_ok_and(|found| is_empty(&found));
+            // Until then another program may write to it, also if it is locked.
+            let is_own = self.is_written || self.file.metadata().is_ok_and(|found| is_empty(&found));
             if is_own && self.check_name().is_ok() {
                 let _ = fs::remove_file(path);
             }
@@ -557,16 +556,16 @@ pub mod tests {
         }
     }
 
-    /// A new file in which another program has written before it was locked, or that was never locked, is not removed.
+    /// A new file in which another program has written, before it was locked or after that, is not removed.
     #[test]
     fn a_new_file_of_another_program() {
         for is_locked in [true, false] {
             let Paths(path, _) = &Paths::new("taken");
             let mut io = FileIo::create_new(path).unwrap();
-            fs::write(path, b"precious").unwrap();
             if is_locked {
                 io.lock().unwrap();
             }
+            fs::write(path, b"precious").unwrap();
             drop(io);
             assert_eq!(fs::read(path).unwrap(), b"precious");
         }

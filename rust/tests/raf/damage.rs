@@ -64,6 +64,22 @@ fn a_write_over_a_damaged_page() {
     assert_eq!(text_of(&mut file), [&text[..512], &[4; 88]].concat());
 }
 
+/// A damaged page is refused as often as it is read, and leaves nothing of itself for the pages before it.
+#[test]
+fn a_damaged_page_between_others() {
+    let (bytes, text) = file();
+    let bytes = with(&bytes, |bytes| bytes.0[FIRST_PAGE + 320 + 50] ^= 1);
+    let mut file = Disks::of(bytes).open().unwrap();
+    let mut buf = [0; 10];
+    for _ in 0..2 {
+        assert_eq!(file.read(&mut buf, 0).unwrap(), 10);
+        assert_eq!(buf, text[..10]);
+        for _ in 0..2 {
+            assert_eq!(outcome(file.read(&mut buf, 256)), "Damaged(1)");
+        }
+    }
+}
+
 #[test]
 fn commitments() {
     let (bytes, _) = file();
