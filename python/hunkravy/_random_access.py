@@ -4,7 +4,6 @@ from __future__ import annotations
 
 import operator
 import os
-import warnings
 from typing import TYPE_CHECKING, ContextManager, Optional, Self
 
 from . import _native, _variants as variants
@@ -57,15 +56,10 @@ class RandomAccessFile(variants.Secret, _native.RandomAccessFile):
     `MemoryError`. Wrong arguments and a closed file raise `ValueError`, `OverflowError` or `TypeError`, and another
     thread or a lost batch `RuntimeError`.
 
-    An exception that leaves a `with` block discards the changes. A file that is dropped without `close` loses them too, with
-    a `ResourceWarning`.
+    An exception that leaves a `with` block discards the changes. A file that is dropped without `close` loses them too.
     """
 
     __slots__ = ()
-
-    def __del__(self) -> None:
-        if not self.closed:
-            warnings.warn(f"{type(self).__name__} was not closed: its changes are lost", ResourceWarning, source=self)
 
     def batch(self) -> ContextManager[Self]:
         """Makes several changes one: `with file.batch():` commits them at its end, or undoes them after an exception.

@@ -154,8 +154,7 @@ class Files(unittest.TestCase):
             1 / 0
         file = RandomAccessFile(self.path, KEY)
         file.write_at(0, b"lost")
-        with self.assertWarnsRegex(ResourceWarning, "was not closed: its changes are lost$"):
-            del file
+        del file
         self.assertEqual(contents(self.path), b"first")
 
     def test_the_table_of_batches(self) -> None:
