@@ -446,7 +446,7 @@ static void check_system(void)
 /* The number of a damaged page stays until another one is found. */
 static void check_damaged(void)
 {
-    static uint8_t contents[3 * 4032];
+    static uint8_t contents[3 * 4032], zeros[100];
     char folder[] = "/tmp/check_file-XXXXXX", path[80];
     off_t place = (off_t)hunkravy_page_place(HUNKRAVY_AEGIS256, 4032, 1);
     uint8_t byte, mac[HUNKRAVY_FILE_COMMITMENT_BYTES];
@@ -456,6 +456,7 @@ static void check_damaged(void)
 
     HOLDS(mkdtemp(folder) != NULL);
     snprintf(path, sizeof path, "%s/file", folder);
+    memset(contents, 7, sizeof contents);
     HOLDS(hunkravy_file_create(&file, path, HUNKRAVY_AEGIS256, key, sizeof key, 4032) == 0);
     HOLDS(hunkravy_file_write(file, 0, contents, sizeof contents) == 0 && hunkravy_file_close(file) == 0);
     fd = open(path, O_RDWR);
@@ -467,7 +468,9 @@ static void check_damaged(void)
     HOLDS(hunkravy_file_read(file, 4032, contents, 1, &length) == HUNKRAVY_DAMAGED_PAGE);
     HOLDS(hunkravy_file_read(file, 0, contents, 1, &length) == 0 && length == 1);
     HOLDS(hunkravy_file_commitment(file, mac) == 0 && hunkravy_file_damaged_page(file) == 1);
-    HOLDS(hunkravy_file_read(file, 4032, contents, 1, &length) == HUNKRAVY_DAMAGED_PAGE);
+    /* What was read before the damaged page is erased. */
+    HOLDS(hunkravy_file_read(file, 4000, contents, sizeof zeros, &length) == HUNKRAVY_DAMAGED_PAGE && length == 0);
+    HOLDS(memcmp(contents, zeros, sizeof zeros) == 0);
     HOLDS(hunkravy_file_close(file) == 0 && truncate(path, place + 5000) == 0);
     HOLDS(hunkravy_file_open(&file, path, HUNKRAVY_AEGIS256, key, sizeof key) == 0);
     HOLDS(hunkravy_file_commitment(file, mac) == HUNKRAVY_DAMAGED_PAGE && hunkravy_file_damaged_page(file) == 2);
