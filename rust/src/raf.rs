@@ -166,8 +166,8 @@ impl<A: Algorithm, I: RafIo, R: RafRng, J: RafIo> Raf<A, I, R, J> {
     ///
     /// # Errors
     ///
-    /// [`Error::Damaged`] with the number of a page whose authentication fails, [`Error::Io`], or [`Error::Broken`]. Each byte of
-    /// `buf` is then zero.
+    /// [`Error::Damaged`] with the number of a page whose authentication fails, [`Error::Io`], [`Error::Broken`], or
+    /// [`Error::Locked`] after a fork. Each byte of `buf` is then zero.
     pub fn read(&mut self, buf: &mut [u8], offset: u64) -> Result<usize> {
         self.engine.read(buf, offset)
     }
@@ -180,7 +180,7 @@ impl<A: Algorithm, I: RafIo, R: RafRng, J: RafIo> Raf<A, I, R, J> {
     ///
     /// # Errors
     ///
-    /// - [`Error::TooLong`], [`Error::Damaged`], [`Error::Broken`], or [`Error::Io`] (of kind
+    /// - [`Error::TooLong`], [`Error::Damaged`], [`Error::Broken`], [`Error::Locked`] after a fork, or [`Error::Io`] (of kind
     ///   [`OutOfMemory`](std::io::ErrorKind::OutOfMemory) if memory runs out): nothing has changed.
     /// - An error of [`commit`](Raf::commit), which documents the state. With a limit of `usize::MAX` no write commits.
     pub fn write(&mut self, data: &[u8], offset: u64) -> Result<usize> {

@@ -148,6 +148,18 @@ fn a_file_that_appears_in_place_of_a_journal() {
     assert_eq!(fs::read(folder.journal()).unwrap(), [7; 40]);
 }
 
+/// A commit that another file's journal has kept back succeeds once that is gone.
+#[test]
+fn a_foreign_journal_that_goes_away() {
+    let folder = Folder::with(b"");
+    let mut file = RafBuilder::<Aegis256>::new().open_file(folder.file(), &KEY).unwrap();
+    file.write(b"a", 0).unwrap();
+    fs::write(folder.journal(), [7; 40]).unwrap();
+    assert_eq!(outcome(file.commit()), "Journal");
+    fs::remove_file(folder.journal()).unwrap();
+    file.commit().unwrap();
+}
+
 /// What was read of one journal does not decide on another that has taken its place, which is not changed.
 #[test]
 fn a_journal_that_is_replaced_as_it_is_read() {
