@@ -44,7 +44,15 @@ impl FileIo {
     }
 
     fn of(file: File, path: Option<PathBuf>, owner: Option<Process>) -> Self {
-        FileIo { file, is_name_synced: path.is_none(), path, owner, is_locked: false, is_unfinished: false, is_written: false }
+        FileIo {
+            file,
+            is_name_synced: path.is_none(),
+            path,
+            owner,
+            is_locked: false,
+            is_unfinished: false,
+            is_written: false,
+        }
     }
 
     /// Opens the file at a path, and creates it if there is none. Its contents are kept.
