@@ -34,7 +34,6 @@ is_text {
 {
     if (!is_code) print ".PP\n.nf"
     is_code = 1
-    sub(/^HUNKRAVY_MUST_USE /, "")
     print escaped($0)
 }
 END {

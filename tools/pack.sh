@@ -87,7 +87,7 @@ packages() {
     printf 'hunkravy (%s-1) unstable; urgency=medium\n\n  * See changelog.gz.\n\n -- %s  %s\n' "$version" \
         "$(sed -n 's/^Maintainer: //p' dist/debian/control)" "$(date -R -d "@$SOURCE_DATE_EPOCH")" > "$folder/debian/changelog"
     ship hunkravy SECURITY.md
-    ship hunkravy docs/{SEALED-FILES,FORMATS}.md
+    ship hunkravy docs/{SEALED-FILES,RANDOM-ACCESS,FORMATS}.md
     ship libhunkravy-dev SECURITY.md
     ship libhunkravy-dev c/README.md
     ship libhunkravy-dev docs/{RANDOM-ACCESS,FORMATS}.md

@@ -57,9 +57,9 @@ def notices(libraries):
     """Returns the text of NOTICES."""
     texts = {name: "\n".join(licences(name)) for name in libraries}
     plain = ", ".join(name for name, text in texts.items() if not text)
-    head = f"Hunkravy {VERSION} is under the licence of LICENSE, and contains these libraries of {kit_version()}.\n"
+    head = f"Hunkravy {VERSION} is under the MIT licence, and contains these libraries of {kit_version()}.\n"
     parts = "".join(f"\n==== {name}\n\n{text}" for name, text in texts.items() if text)
-    return f"{head}\nRattle's own, whose kit has no notice for them: {plain}.\n{parts}"
+    return f"{head}\nThe kit has no notice for {plain}. That of core covers only the parts that it names.\n{parts}"
 
 
 def kit_version():

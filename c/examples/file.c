@@ -48,8 +48,8 @@ int main(int count, char **arguments)
     const char *text = count == 5 ? arguments[4] : NULL;
     int code = EINVAL, closed;
     if ((count != 4 && count != 5) || (text != NULL && strlen(text) > TEXT_BYTES)) {
-        puts("usage: file KEYFILE FILE NUMBER [TEXT]");
-        return count > 2 ? EXIT_FAILURE : EXIT_SUCCESS;
+        fputs("usage: file KEYFILE FILE NUMBER [TEXT]\n", stderr);
+        return count > 1 ? EXIT_FAILURE : EXIT_SUCCESS;
     }
     if (get_key(arguments[1], key)) {
         code = hunkravy_file_open(&file, arguments[2], HUNKRAVY_AEGIS256, key, sizeof key);

@@ -133,8 +133,8 @@ int main(int count, char **arguments)
     int result = -1;
 
     if (count != 3) {
-        puts("usage: records seal|open KEYFILE");
-        return EXIT_SUCCESS;
+        fputs("usage: records seal|open KEYFILE\n", stderr);
+        return count > 1 ? EXIT_FAILURE : EXIT_SUCCESS;
     }
     if (read_key(key, arguments[2]) == 0) {
         result = strcmp(arguments[1], "seal") == 0 ? seal(stdout, stdin, key)

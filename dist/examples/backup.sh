@@ -10,6 +10,7 @@ keep=${KEEP:-30}
 [[ $keep =~ ^(0|[1-9][0-9]*)$ ]] || { echo "backup.sh: KEEP must be a number such as 30, not $keep" >&2; exit 2; }
 key=$1 store=$2
 shift 2
+for path in "$@"; do [[ $path == /?* ]] || { echo "backup.sh: not an absolute path: $path" >&2; exit 2; }; done
 today=$(date +%F)
 part=$store/backup.part
 
