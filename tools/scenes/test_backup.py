@@ -49,6 +49,7 @@ class Backup(Scene):
     # Wrong words, a key that cannot be read, a second run of a day, and one beside another.
     def test_failures(self):
         self.tool(2, ["bash", SCRIPT, "key", "store"], "usage: backup.sh KEY STORE PATH..")
+        self.tool(2, ["bash", SCRIPT, "key", "store", "docs"], "not an absolute path: docs")
         for keep in "some", "-1", "010", "08":
             self.night("2026-04-01", 0, 2, f"KEEP must be a number such as 30, not {keep}", KEEP=keep)
         self.night("2026-04-01", 0, 0, lacks=".")
