@@ -151,9 +151,10 @@ check-manual: $(OUT)/hunkravy.3
 		echo 'left out: the manual page by mandoc, which is not installed'; \
 	fi
 
-# The C programs: the examples, and the tests but those with a rule of their own. They read the stored lines.
+# The C programs: the examples, and the tests but those with a rule of their own. The tests read the stored lines.
 C_TESTS = $(filter-out check_time check_wipe,$(basename $(notdir $(sort $(wildcard c/tests/*.c)))))
 C_PROGRAMS = $(C_EXAMPLES) $(C_TESTS)
+ITS_LINES = $$(case $$program in check_*) echo $(STORED_LINES) ;; esac)
 # The tests of files let allocations and calls of the system fail.
 WRAPS = $$(case $$program in \
 	check_file) printf ' -Wl,--wrap=%s' malloc calloc ;; \
@@ -165,7 +166,7 @@ check-c-%: $(OUT)/%/libhunkravy.a
 	for program in $(C_PROGRAMS); do \
 		$(TOOLS_$*)$(CC) -std=c99 $(C_FLAGS) -O2 c/[et]*/$$program.c $< $(WRAPS) -o $(OUT)/$*/$$program && \
 		LEVEL=$(if $(filter both,$*),,$(or $(patsubst x86-64-v%,%,$(filter x86%,$*)),1)) \
-			$(RUN_$*) $(OUT)/$*/$$program $(STORED_LINES) || exit 1; \
+			$(RUN_$*) $(OUT)/$*/$$program $(ITS_LINES) || exit 1; \
 	done
 	c/tests/check_records.sh $(RUN_$*) $(OUT)/$*/records
 	for compiler in $(TOOLS_$*)$(CC) $(if $(TOOLS_$*),,$(CLANG)); do \
@@ -184,7 +185,7 @@ check-sanitized: $(OUT)/$(firstword $(LEVELS))/aegis_c.a
 	for program in $(C_PROGRAMS); do \
 		$(CC) -std=c99 $(C_FLAGS) $(SANITIZERS) -DHUNKRAVY_LEVEL=1 c/[et]*/$$program.c $(SANITIZED)/*.c $< \
 			$(WRAPS) -o $(SANITIZED)/$$program && \
-		$(SANITIZED)/$$program $(STORED_LINES) || exit 1; \
+		$(SANITIZED)/$$program $(ITS_LINES) || exit 1; \
 	done
 	c/tests/check_records.sh $(SANITIZED)/records
 
