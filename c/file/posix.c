@@ -144,8 +144,8 @@ struct posix {
     struct process owner;
     int file, journal;
     int is_locked, is_name_synced, is_journal_name_synced;
-    /* Whether the file was made, and has no header yet. Then it is removed if it is closed, unless another program wrote it. */
-    int is_unfinished, is_written;
+    /* A new file is removed if it is closed before it is complete, unless another program has written it. */
+    enum { COMPLETE, NEW, BEGUN } stage;
     /* The paths, with no links in them: of the file, its journal, the copy of that, and the folder. */
     char *path, *journal_path, *copy_path, *folder_path;
     char paths[];
@@ -192,9 +192,12 @@ static int system_lock(void *context)
 {
     struct posix *posix = context;
     if (flock(posix->file, LOCK_EX | LOCK_NB) != 0) {
+        if (errno != EWOULDBLOCK) {
+            return errno;
+        }
         /* If another program has it, it is no new file. */
-        posix->is_unfinished = posix->is_unfinished && errno != EWOULDBLOCK;
-        return errno == EWOULDBLOCK ? HUNKRAVY_FILE_LOCKED : errno;
+        posix->stage = COMPLETE;
+        return HUNKRAVY_FILE_LOCKED;
     }
     posix->is_locked = 1;
     return check_name(posix);
@@ -208,7 +211,7 @@ static int system_check(void *context)
         TRY(sync_folder(posix));
     }
     posix->is_name_synced = 1;
-    posix->is_unfinished = 0;
+    posix->stage = COMPLETE;
     return 0;
 }
 
@@ -451,7 +454,9 @@ static int system_write(void *context, enum hunkravy_part part, uint64_t place, 
     struct posix *posix = context;
     int fd;
     TRY(fd_of(posix, part, &fd));
-    posix->is_written = posix->is_written || part == HUNKRAVY_PART_FILE;
+    if (part == HUNKRAVY_PART_FILE && posix->stage == NEW) {
+        posix->stage = BEGUN;
+    }
     return fd < 0 ? EBADF : put(fd, bytes, length, place);
 }
 
@@ -520,8 +525,8 @@ static void system_close(void *context)
     struct posix *posix = context;
     /* A process that was forked shares the lock, and may keep another descriptor of the file. */
     if (hunkravy_file_is_this(&posix->owner)) {
-        /* Until then another program may write to it, also if it is locked. */
-        if (posix->is_unfinished && (posix->is_written || is_empty(posix->file)) && check_name(posix) == 0) {
+        int is_own = posix->stage == BEGUN || (posix->stage == NEW && is_empty(posix->file));
+        if (is_own && check_name(posix) == 0) {
             unlink(posix->path);
         }
         if (posix->is_locked) {
@@ -611,7 +616,7 @@ int hunkravy_file_posix(struct hunkravy_storage *storage, const char *path, int 
     free(whole);
     TRY(code);
     posix->journal = -1;
-    posix->is_unfinished = is_new;
+    posix->stage = is_new ? NEW : COMPLETE;
     posix->owner = owner;
     *storage = (struct hunkravy_storage){
         .context = posix,
