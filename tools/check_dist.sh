@@ -261,7 +261,7 @@ cp -r "$folder" "$work/page"
 touch "$work/page/FILE"
 mkdir "$work/local"
 sed -n '/^```sh$/,/^```$/{ /^```/d; s|/usr/local|../local|; /^ldconfig$/d; p }' "$folder/README.md" > "$work/commands"
-[ "$(wc -l < "$work/commands")" = 5 ] || fail 'the page of the archive has no commands'
+[ "$(wc -l < "$work/commands")" = 6 ] || fail 'the page of the archive has no commands'
 use PIP_TARGET="$work/of-page" PIP_NO_INDEX=1 PIP_DISABLE_PIP_VERSION_CHECK=1 PIP_ROOT_USER_ACTION=ignore CARGO_NET_OFFLINE=true \
     bash -c 'cd page && while read -r command; do eval "$command" || exit 1; done < ../commands' > "$work/said" 2>&1 < /dev/null || { cat "$work/said"; fail 'a command of the page of the archive fails'; }
 use make --no-print-directory -C "$root" check-install "OUT=$out" "PREFIX=$work/local"
