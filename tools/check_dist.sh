@@ -263,7 +263,8 @@ mkdir "$work/local"
 sed -n '/^```sh$/,/^```$/{ /^```/d; s|/usr/local|../local|; /^ldconfig$/d; p }' "$folder/README.md" > "$work/commands"
 [ "$(wc -l < "$work/commands")" = 6 ] || fail 'the page of the archive has no commands'
 use PIP_TARGET="$work/of-page" PIP_NO_INDEX=1 PIP_DISABLE_PIP_VERSION_CHECK=1 PIP_ROOT_USER_ACTION=ignore CARGO_NET_OFFLINE=true \
-    bash -c 'cd page && while read -r command; do eval "$command" || exit 1; done < ../commands' > "$work/said" 2>&1 < /dev/null || { cat "$work/said"; fail 'a command of the page of the archive fails'; }
+    bash -c 'umask 077; cd page && while read -r command; do eval "$command" || exit 1; done < ../commands' > "$work/said" 2>&1 < /dev/null || { cat "$work/said"; fail 'a command of the page of the archive fails'; }
+if find "$work/local" ! -perm -go=r | grep .; then fail 'what was copied with umask 077 can be read by its owner alone'; fi
 use make --no-print-directory -C "$root" check-install "OUT=$out" "PREFIX=$work/local"
 
 # The tests of the Debian packages, in their system, as autopkgtest runs them. That of the tool serves for the archive too.

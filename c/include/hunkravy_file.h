@@ -13,8 +13,8 @@
  * A commit first writes its changes to the journal, the file PATH.journal, and at its end removes it. Opening completes a
  * commit that was interrupted, or discards all of it. `raf` in Rust, RandomAccessFile in Python and the proved crate
  * `aegis_pages` read and write the same files. FORMATS.md has the format, and RANDOM-ACCESS.md what a crash may leave.
- * PATH.journal and PATH.jrncopy belong to the file, whose PATH is the one without links: opening may replace or remove
- * them, and removes a PATH.journal of up to 512 bytes, whatever it holds.
+ * PATH.journal and PATH.jrncopy belong to the file; links in PATH are resolved first. Opening may replace or remove them,
+ * and removes any PATH.journal of up to 512 bytes.
  *
  * BATCHES. A batch combines several changes into one. It means the same in C, Python and Rust:
  *
@@ -34,7 +34,7 @@
  * RESULTS. A function that is marked HUNKRAVY_MUST_USE returns HUNKRAVY_OK, a code of hunkravy.h (negative), or an error
  * number of the system, such as ENOSPC (positive). hunkravy_file_error_text has a message for each. After ENOMEM nothing
  * has changed, unless the function's comment says so. EINVAL means that PATH.journal is not a regular file, has several
- * names, or can be written by others than the file. These codes are of files:
+ * names, or may be written by a user who may not write the file. These codes are of files:
  *
  * - HUNKRAVY_NO_FILE: there is no header of this variant and key. The key is wrong, or the file is empty, damaged or
  *   another. If there is no file at the path, the error is ENOENT.
@@ -112,8 +112,8 @@ HUNKRAVY_MUST_USE int hunkravy_file_write(hunkravy_file *file, uint64_t offset, 
     HUNKRAVY_NONNULL(1);
 
 /*
- * Truncates the contents, or extends them with zeros, as a write of these does: they take memory, and may cause a commit.
- * The file itself does not become shorter.
+ * Truncates the contents, or extends them with zeros. These take memory, and outside a batch may cause a commit, like a
+ * write. The file itself does not become shorter.
  */
 HUNKRAVY_MUST_USE int hunkravy_file_truncate(hunkravy_file *file, uint64_t size) HUNKRAVY_NONNULL(1);
 
