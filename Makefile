@@ -1,5 +1,5 @@
 # The commands that a person types. Each folder's own are in its rules.mk.
-.PHONY: run program quick quick-over-the-stand-in check-standin test check-gate check-pages check-mutants check-mutants-rotated
+.PHONY: run program quick quick-over-the-stand-in check-standin test check-gate check-pages check-mutants check-mutants-alone check-mutants-rotated
 .SECONDARY:
 .DELETE_ON_ERROR:
 
@@ -95,7 +95,11 @@ OVER_STANDIN = check-header check-abi check-c-both check-c++ check-rust-both tes
 check-standin:
 	$(MAKE) OUT=out/quick OVER_STANDIN=check-c-both quick-over-the-stand-in
 
-# Tries the mutants that the gate leaves out: the prover has to refuse each, and to prove each control.
+# Tries the mutants of the gate that are not in must-fail/, each on one function alone.
+check-mutants-alone:
+	python3 tools/mutants.py try-alone
+
+# Tries all mutants that are listed: the prover has to refuse each, and to prove each control.
 check-mutants:
 	python3 tools/mutants.py try
 

@@ -1,11 +1,12 @@
-"""The mutants of the crates: those of the gate, in must-fail/, the others, which mutants.txt lists, and the controls.
+"""The mutants of the crates: those that `rt ci` tries, in must-fail/, the others, which mutants.txt lists, and the controls.
 
-A control has the shape of a mutant and the right meaning, so the prover has to prove it: controls.txt lists them, each with
+A mutant with a line `alone:` is tried in the gate too, on the function of that path alone. A control has the shape of a mutant and the right meaning, so the prover has to prove it: controls.txt lists them, each with
 the name of the mutant that it stands beside.
 
 mutants.py check: each can be applied, since every text that it replaces stands in its file once, has a name of its own in its
 crate, and names the clauses that refuse it. The function that it changes, or one that calls that, has a clause of each name.
-mutants.py try [CRATE..]: the prover refuses each mutant that is listed, and proves each control.
+mutants.py try-alone: the prover refuses each mutant with a line `alone:`, over the libraries that `rt ci` has proved.
+mutants.py try [CRATE..]: it refuses each mutant that is listed, and proves each control.
 mutants.py try-tenth: it refuses each mutant of the day's tenth.
 """
 
@@ -19,6 +20,8 @@ import sys
 import tempfile
 import time
 from typing import NamedTuple
+
+import proved
 
 CRATES = pathlib.Path("crates")
 FUNCTION = re.compile(r'^( *)(?:pub(?:\(crate\))? |final |const |unsafe |extern "C" )*fn (\w+)', re.M)
@@ -40,7 +43,7 @@ class Edit(NamedTuple):
 
 def edit_of(crate, name, lines):
     """Returns the edit of these lines."""
-    said, replacements = {"clause:": [], "beside:": [], "file:": [], "old:": [], "new:": []}, []
+    said, replacements = {word: [] for word in ("clause:", "alone:", "beside:", "file:", "old:", "new:")}, []
     for line in lines:
         word, _, rest = line.partition(" ")
         if word not in said:
@@ -221,6 +224,10 @@ def check():
         alone = None if len(beside) == 1 and beside[0] in names else "it stands beside no mutant"
         if why := fault(edit) or alone:
             yield f"{edit.crate.name}: control {edit.name}: {why}"
+    for crate in sorted({crate for crate, _ in names}):
+        of_gate = [edit for edit in listed("mutants.txt") if edit.crate == crate and edit.said["alone:"]]
+        if len(of_gate) != (0 if any(edit.crate == crate for edit in mutants) else 1):
+            yield f"{crate.name}: the gate tries none of its mutants, or too many"
     if not names:
         yield "there are no mutants"
 
@@ -249,6 +256,36 @@ def tried(folder, edits):
             shows_nothing = shows_nothing or SHOWS_NOTHING.search(line)
             edits = [edit for edit in edits if f"{edit.crate.name}/{edit.name}.edit: NOT REFUSED" not in line]
     return process.returncode == 0 and not shows_nothing, edits
+
+
+# What the prover says where a proof only misses a name.
+MISSES_A_NAME = re.compile(r"is not in scope|has no field|has no `|was not admitted")
+
+
+def reason_alone(edit):
+    """Returns why the prover refuses the function that a mutant names, with what it calls, or None if it does not."""
+    with tempfile.TemporaryDirectory() as folder:
+        for part in filter(pathlib.Path.is_dir, (edit.crate / name for name in ("src", "specs", "proofs"))):
+            shutil.copytree(part, f"{folder}/{part.name}")
+        for path, old, new in edit.replacements:
+            file = pathlib.Path(folder, path)
+            file.write_text(file.read_text("utf-8").replace(old, new), "utf-8")
+        command = [f"{proved.KIT}/bin/rattle", "check", *proved.words(edit.crate.name, "src/lib.rt"), "--only", *edit.said["alone:"]]
+        found = subprocess.run(command, cwd=folder, stdin=subprocess.DEVNULL, stdout=subprocess.PIPE, stderr=subprocess.STDOUT, text=True)
+    reasons = re.findall(r"^(?:\./proofs/\S+ error: |note: `).*", found.stdout, re.M)
+    was_checked = found.returncode == 1 and re.search(r"^only=", found.stdout, re.M)
+    return next((reason for reason in reasons if was_checked and not MISSES_A_NAME.search(reason)), None)
+
+
+def try_alone():
+    """Returns whether the prover fails to refuse a mutant of the gate on its function alone."""
+    proved.check()
+    missed = False
+    for edit in [edit for edit in listed("mutants.txt") if edit.said["alone:"]]:
+        reason = reason_alone(edit)
+        missed = missed or reason is None
+        print(f"{edit.crate.name}: {edit.name}: {f'refused: {reason[:160]}' if reason else 'NOT REFUSED'}", flush=True)
+    return missed
 
 
 def try_these(mutants, controls):
@@ -281,6 +318,7 @@ def try_tenth():
 
 if __name__ == "__main__":
     command, *words = sys.argv[1:]
-    if command in ("try", "try-tenth"):
-        sys.exit(try_tenth() if command == "try-tenth" else try_listed(words))
+    tries = {"try": lambda: try_listed(words), "try-alone": try_alone, "try-tenth": try_tenth}
+    if command in tries:
+        sys.exit(tries[command]())
     sys.exit("\n".join(check()) or None)

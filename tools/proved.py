@@ -107,10 +107,10 @@ def check():
 # ---- What is built
 
 
-def words(name, is_static):
-    """Returns rattle's words for a crate, as rt passes them."""
+def words(name, root):
+    """Returns rattle's words for a crate with this root, as rt passes them."""
     rows, own = listed()[0], CRATES.absolute()
-    found = ["--crate-name", name, "src/lib.rt" if is_static else "src/main.rt", "-L", f"dependency={KIT}/rlibs"]
+    found = ["--crate-name", name, root, "-L", f"dependency={KIT}/rlibs"]
     found += ["--links", f"{name}=", "--antt-project", f"{KIT}/rattle/logic/antt-project.json"]
     found += ["--logic-built", f"{KIT}/logic_built"]
     for library in ["std", *rows[name]]:
@@ -118,13 +118,14 @@ def words(name, is_static):
         found += ["--extern", f"{library}={place}/{library}.rlib"]
     for library in sorted(below(rows, name)):
         found += ["-L", f"dependency={own / library / 'out/rlib'}"]
-    return found + ["--crate-type", "staticlib"] * is_static
+    return found
 
 
 def build(name, file, *flags):
     """Proves a crate over what was proved, and builds it."""
     check()
-    found = [*words(name, name in listed()[1]), *flags, "--incremental", os.path.abspath(WORK / name)]
+    kind = ["src/lib.rt", "--crate-type", "staticlib"] if name in listed()[1] else ["src/main.rt"]
+    found = [*words(name, kind[0]), *kind[1:], *flags, "--incremental", os.path.abspath(WORK / name)]
     found += ["--toolchain", f"{KIT}/toolchain", "--backend", "llvm", "-o", os.path.abspath(file)]
     subprocess.run([f"{KIT}/bin/rattle", "build", *found], check=True, stdin=subprocess.DEVNULL, cwd=CRATES / name)
 
