@@ -332,15 +332,46 @@ static void check_batches(void)
 
 /* ---- Memory that runs out */
 
+/* Opens the file again, once there are enough allocations for it. */
+static void open_with_few_allocations(hunkravy_file **file, struct hunkravy_storage *storage, unsigned long *refused)
+{
+    int code;
+
+    allocations_left = (long)draw(6);
+    while ((code = hunkravy_file_open_in(file, storage, HUNKRAVY_AEGIS256, key, sizeof key)) != 0) {
+        HOLDS(code == ENOMEM && *file == NULL);
+        (*refused)++;
+        allocations_left = (long)draw(6);
+    }
+}
+
+/* Two changes in a batch, which ends or is undone. */
+static int change_in_batch(hunkravy_file *file, struct model *model)
+{
+    static struct model saved;
+    uint64_t batch;
+    int code;
+
+    saved = *model;
+    code = hunkravy_file_begin(file, &batch);
+    if (code == 0) {
+        (void)!change(file, model, 12000);
+        (void)!change(file, model, 12000);
+        if (draw(2) || hunkravy_file_end(file, batch) != 0) {
+            hunkravy_file_undo(file, batch);
+            *model = saved;
+        }
+    }
+    return code;
+}
+
 static void check_memory(void)
 {
     static struct disk disk;
-    static struct model model, saved;
+    static struct model model;
     struct hunkravy_storage storage = over(&disk);
     hunkravy_file *file = NULL;
     unsigned long refused = 0;
-    uint64_t batch;
-    int code;
 
     if (__real_malloc == NULL) {
         return;
@@ -348,31 +379,18 @@ static void check_memory(void)
     HOLDS(hunkravy_file_create_in(&file, &storage, HUNKRAVY_AEGIS256, key, sizeof key, 256) == 0);
     for (int turn = 0; turn < 20000; turn++) {
         uint64_t kind = draw(8);
+        int code = 0;
         allocations_left = (long)draw(12);
         if (kind < 4) {
             code = change(file, &model, 12000);
         } else if (kind == 4) {
             code = hunkravy_file_commit(file);
         } else if (kind == 5) {
-            saved = model;
-            code = hunkravy_file_begin(file, &batch);
-            if (code == 0) {
-                (void)!change(file, &model, 12000);
-                (void)!change(file, &model, 12000);
-                if (draw(2) || hunkravy_file_end(file, batch) != 0) {
-                    hunkravy_file_undo(file, batch);
-                    model = saved;
-                }
-            }
+            code = change_in_batch(file, &model);
         } else {
             allocations_left = -1;
             HOLDS(hunkravy_file_commit(file) == 0 && hunkravy_file_close(file) == 0);
-            allocations_left = (long)draw(6);
-            while ((code = hunkravy_file_open_in(&file, &storage, HUNKRAVY_AEGIS256, key, sizeof key)) != 0) {
-                HOLDS(code == ENOMEM && file == NULL);
-                refused++;
-                allocations_left = (long)draw(6);
-            }
+            open_with_few_allocations(&file, &storage, &refused);
         }
         HOLDS(code == 0 || code == ENOMEM);
         refused += code == ENOMEM;
@@ -385,6 +403,24 @@ static void check_memory(void)
 
 /* ---- Files of the system */
 
+/* A long journal of another file is rejected before there is memory for it, and so is another key. A page that is cut off is
+   damaged. */
+static void check_rejected(const char *path, const char *journal)
+{
+    hunkravy_file *file;
+    uint8_t bytes[5];
+    size_t length;
+    int fd = open(journal, O_WRONLY | O_CREAT | O_EXCL, 0600);
+
+    HOLDS(fd >= 0 && ftruncate(fd, (off_t)1 << 40) == 0 && close(fd) == 0);
+    HOLDS(hunkravy_file_open(&file, path, HUNKRAVY_AEGIS256, key, sizeof key) == HUNKRAVY_WRONG_JOURNAL);
+    HOLDS(hunkravy_file_open(&file, path, HUNKRAVY_AEGIS128L, key, 16) == HUNKRAVY_NO_FILE && unlink(journal) == 0);
+    HOLDS(truncate(path, 5000) == 0 && hunkravy_file_open(&file, path, HUNKRAVY_AEGIS256, key, sizeof key) == 0);
+    HOLDS(hunkravy_file_read(file, 0, bytes, sizeof bytes, &length) == HUNKRAVY_DAMAGED_PAGE && length == 0);
+    HOLDS(hunkravy_file_damaged_page(file) == 0 && hunkravy_file_close(file) == 0);
+    HOLDS(hunkravy_file_open(&file, path, HUNKRAVY_AEGIS128L, key, 16) == HUNKRAVY_NO_FILE);
+}
+
 static void check_system(void)
 {
     static struct model model;
@@ -392,8 +428,6 @@ static void check_system(void)
     hunkravy_file *file, *second;
     uint8_t mac[2][HUNKRAVY_FILE_COMMITMENT_BYTES];
     uint64_t batch;
-    size_t length;
-    int fd;
 
     HOLDS(mkdtemp(folder) != NULL);
     snprintf(path, sizeof path, "%s/file", folder);
@@ -431,15 +465,7 @@ static void check_system(void)
     HOLDS(hunkravy_file_open(&file, path, HUNKRAVY_AEGIS256, key, sizeof key) == 0);
     HOLDS(hunkravy_file_commitment(file, mac[0]) == 0 && memcmp(mac[0], mac[1], sizeof mac[0]) == 0);
     HOLDS(hunkravy_file_close(file) == 0);
-    /* A long journal of another file is rejected before there is memory for it. */
-    fd = open(journal, O_WRONLY | O_CREAT | O_EXCL, 0600);
-    HOLDS(fd >= 0 && ftruncate(fd, (off_t)1 << 40) == 0 && close(fd) == 0);
-    HOLDS(hunkravy_file_open(&file, path, HUNKRAVY_AEGIS256, key, sizeof key) == HUNKRAVY_WRONG_JOURNAL);
-    HOLDS(hunkravy_file_open(&file, path, HUNKRAVY_AEGIS128L, key, 16) == HUNKRAVY_NO_FILE && unlink(journal) == 0);
-    HOLDS(truncate(path, 5000) == 0 && hunkravy_file_open(&file, path, HUNKRAVY_AEGIS256, key, sizeof key) == 0);
-    HOLDS(hunkravy_file_read(file, 0, model.bytes, 5, &length) == HUNKRAVY_DAMAGED_PAGE && length == 0);
-    HOLDS(hunkravy_file_damaged_page(file) == 0 && hunkravy_file_close(file) == 0);
-    HOLDS(hunkravy_file_open(&file, path, HUNKRAVY_AEGIS128L, key, 16) == HUNKRAVY_NO_FILE);
+    check_rejected(path, journal);
     HOLDS(unlink(path) == 0 && rmdir(folder) == 0);
 }
 

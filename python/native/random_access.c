@@ -209,6 +209,26 @@ static uint32_t variant_of(PyObject *cipher)
     return (uint32_t)number;
 }
 
+/* Opens the file at a path in an object whose lock this thread has, or creates one if there is a page size. */
+static void open_at(File *self, PyObject *path, uint32_t variant, const Py_buffer *key, const uint32_t *page_size)
+{
+    hunkravy_file *file;
+    const char *name = PyBytes_AsString(path);
+    PyThreadState *released = PyEval_SaveThread();
+    int code = page_size != NULL ? hunkravy_file_create(&file, name, variant, key->buf, (size_t)key->len, *page_size)
+                                 : hunkravy_file_open(&file, name, variant, key->buf, (size_t)key->len);
+    PyEval_RestoreThread(released);
+    if (code != HUNKRAVY_OK) {
+        (void)result_of(code, 0, path, NULL);
+    } else if (self->file != NULL) {
+        /* Another thread has called `__init__` of this object too. */
+        (void)!hunkravy_file_close(file);
+        PyErr_SetString(PyExc_RuntimeError, "the file is open already");
+    } else {
+        self->file = file;
+    }
+}
+
 /* Opens a file in an object, or creates one. */
 static int open_in(File *self, PyObject *given, PyObject *named, bool is_new)
 {
@@ -218,7 +238,7 @@ static int open_in(File *self, PyObject *given, PyObject *named, bool is_new)
     Py_buffer key = {.obj = NULL};
     uint32_t variant = HUNKRAVY_AEGIS256;
     uint64_t page_size = 0;
-    int checks = 1, code;
+    int checks = 1;
     if (!PyArg_ParseTupleAndKeywords(given, named, is_new ? "O&y*|$OpO:create" : "O&y*|$Op:RandomAccessFile",
             is_new ? of_create : of_open, PyUnicode_FSConverter, &path, &key, &cipher, &checks, &size)) {
         return -1;
@@ -234,21 +254,9 @@ static int open_in(File *self, PyObject *given, PyObject *named, bool is_new)
     /* No code of the caller runs from here on, such as an attribute's: it could wait for this lock. */
     bool is_free = !PyErr_Occurred() && self->file == NULL && PyThread_acquire_lock(self->lock, NOWAIT_LOCK);
     if (is_free) {
-        hunkravy_file *file;
-        const char *name = PyBytes_AsString(path);
-        PyThreadState *released = PyEval_SaveThread();
-        code = is_new ? hunkravy_file_create(&file, name, variant, key.buf, (size_t)key.len, (uint32_t)page_size)
-                      : hunkravy_file_open(&file, name, variant, key.buf, (size_t)key.len);
-        PyEval_RestoreThread(released);
-        if (code == HUNKRAVY_OK && self->file != NULL) {
-            /* Another thread has called `__init__` of this object too. */
-            (void)!hunkravy_file_close(file);
-            PyErr_SetString(PyExc_RuntimeError, "the file is open already");
-        } else if (code == HUNKRAVY_OK) {
-            self->file = file;
+        open_at(self, path, variant, &key, is_new ? &(uint32_t){(uint32_t)page_size} : NULL);
+        if (!PyErr_Occurred()) {
             self->thread = checks ? PyThread_get_thread_ident() : 0;
-        } else {
-            (void)result_of(code, 0, path, NULL);
         }
         PyThread_release_lock(self->lock);
     } else if (!PyErr_Occurred()) {

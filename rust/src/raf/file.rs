@@ -26,9 +26,16 @@ pub struct FileIo {
     /// The process that opened it: a copy of the descriptor in another shares its lock.
     owner: Option<Process>,
     is_locked: bool,
-    /// Whether the file was made for this one, and has no header yet. Dropping then removes it.
-    is_unfinished: bool,
-    is_written: bool,
+    stage: Stage,
+}
+
+/// How far a file was made for its [`FileIo`]: it is complete or was there before, or it is new, or its header was begun.
+/// Dropping removes one of the last two.
+#[derive(Clone, Copy, Debug, PartialEq)]
+enum Stage {
+    Complete,
+    New,
+    Begun,
 }
 
 impl FileIo {
@@ -50,8 +57,7 @@ impl FileIo {
             path,
             owner,
             is_locked: false,
-            is_unfinished: false,
-            is_written: false,
+            stage: Stage::Complete,
         }
     }
 
@@ -76,7 +82,7 @@ impl FileIo {
     /// Makes a file at a path where there is none, and removes it again unless it becomes one of this format.
     pub(super) fn create_new(path: &Path) -> Result<Self> {
         let mut made = Self::with(File::options().create_new(true), path)?;
-        made.is_unfinished = true;
+        made.stage = Stage::New;
         Ok(made)
     }
 
@@ -113,7 +119,9 @@ impl RafIo for FileIo {
     }
 
     fn write_at(&mut self, data: &[u8], offset: u64) -> io::Result<()> {
-        self.is_written = true;
+        if self.stage == Stage::New {
+            self.stage = Stage::Begun;
+        }
         self.file.write_all_at(data, offset)
     }
 
@@ -152,8 +160,10 @@ impl RafIo for FileIo {
             return Err(Error::Locked);
         }
         if let Err(error) = lock(&self.file) {
-            // Another program has the file, which is then no new one.
-            self.is_unfinished &= !matches!(error, Error::Locked);
+            if let Error::Locked = error {
+                // Another program has the file, which is then no new one.
+                self.stage = Stage::Complete;
+            }
             return Err(error);
         }
         self.is_locked = true;
@@ -170,7 +180,7 @@ impl RafIo for FileIo {
             sync_folder(path)?;
             self.is_name_synced = true;
         }
-        self.is_unfinished = false;
+        self.stage = Stage::Complete;
         Ok(())
     }
 }
@@ -182,12 +192,14 @@ impl Drop for FileIo {
         if !self.is_here() {
             return;
         }
-        if let (Some(path), true) = (&self.path, self.is_unfinished) {
-            // Until then another program may write to it, also if it is locked.
-            let is_own = self.is_written || self.file.metadata().is_ok_and(|found| is_empty(&found));
-            if is_own && self.check_name().is_ok() {
-                let _ = fs::remove_file(path);
-            }
+        let is_own = match self.stage {
+            Stage::Complete => false,
+            // Another program may have written to it, also if it is locked.
+            Stage::New => self.file.metadata().is_ok_and(|found| is_empty(&found)),
+            Stage::Begun => true,
+        };
+        if let (Some(path), true) = (&self.path, is_own && self.check_name().is_ok()) {
+            let _ = fs::remove_file(path);
         }
         if self.is_locked {
             let _ = unlock(&self.file);
