@@ -57,9 +57,8 @@ pub fn folder() -> Result<PathBuf, String> {
     let program = env::var_os("PKG_CONFIG").unwrap_or_else(|| "pkg-config".into());
     let found = installed(Path::new(&program)).map_err(|reason| {
         format!(
-            "{ARCHIVE} was not found ({reason}). Set {FOLDER_VARIABLE} to the folder that has it: lib of a release, \
-             or out/both of the repository after `make c-library`. Or set PKG_CONFIG_PATH to the folder that has \
-             hunkravy.pc."
+            "{ARCHIVE} was not found ({reason}). Set {FOLDER_VARIABLE} to the folder that has it, as lib of a release, \
+             or PKG_CONFIG_PATH to the folder that has hunkravy.pc."
         )
     })?;
     with_archive(found, "pkg-config")

@@ -19,7 +19,8 @@ VERSION = pathlib.Path("VERSION").read_text("ascii").strip()
 # The licences that comments of Rattle's sources name, in SPDX's words.
 NAMED = {"MIT licence": "MIT", "Unicode License": "Unicode-3.0", "Unlicense": "Unlicense"}
 RATTLE = {"licenseId": "LicenseRef-Rattle", "extractedText": "Rattle's kit has no notice for its own libraries."}
-# What the linker adds: the files that start and end a program or a shared library, whose licences allow it in any.
+# What the linker adds, whose licences allow it in any program.
+LINKS = "The files that start and end a program or a shared library. A static library has none of them."
 LINKED = {"glibc": "LGPL-2.1-or-later", "gcc": "GPL-3.0-or-later WITH GCC-exception-3.1"}
 
 
@@ -59,7 +60,7 @@ def notices(libraries):
     plain = ", ".join(name for name, text in texts.items() if not text)
     head = f"Hunkravy {VERSION} is under the MIT licence, and contains these libraries of {kit_version()}.\n"
     parts = "".join(f"\n==== {name}\n\n{text}" for name, text in texts.items() if text)
-    return f"{head}\nThe kit has no notice for {plain}. That of core covers only the parts that it names.\n{parts}"
+    return f"{head}\nThe kit has no notice for {plain}. That of core covers only the parts that it names, by files of the kit.\n{parts}"
 
 
 def kit_version():
@@ -85,7 +86,7 @@ def document(crates, libraries):
     """Returns the list of parts."""
     moment = datetime.datetime.fromtimestamp(int(os.environ.get("SOURCE_DATE_EPOCH", "315532800")), datetime.timezone.utc)
     parts = [package("hunkravy", VERSION, "MIT"), *(package(name, kit_version(), declared(name)) for name in libraries)]
-    parts += [package(name, "NOASSERTION", licence) for name, licence in LINKED.items()]
+    parts += [package(name, "NOASSERTION", licence) | {"comment": LINKS} for name, licence in LINKED.items()]
     root, *others = [part["SPDXID"] for part in parts]
     links = [("SPDXRef-DOCUMENT", "DESCRIBES", root), *((root, "CONTAINS", other) for other in others)]
     name = f"hunkravy-{VERSION}-{'-'.join(crates)}"
