@@ -100,8 +100,8 @@ enum hunkravy_code {
     HUNKRAVY_WRONG_RECORD_LENGTH = -11,
     /* The page size is less than HUNKRAVY_PAGE_MIN_SIZE or more than HUNKRAVY_PAGE_MAX_SIZE. */
     HUNKRAVY_WRONG_PAGE_SIZE = -12,
-    /* The contents of a file have more than HUNKRAVY_PAGE_MAX_CONTENTS_BYTES, a page would begin after that many, or a
-       journal is too long. */
+    /* The contents of a file have more than HUNKRAVY_PAGE_MAX_CONTENTS_BYTES, a page would begin after that many, a
+       journal is too long, or no more commits are possible. */
     HUNKRAVY_FILE_TOO_LONG = -13,
     /* The length is neither 0 nor that of the message that was decrypted. */
     HUNKRAVY_WRONG_MESSAGE_LENGTH = -14,

@@ -147,8 +147,9 @@ void hunkravy_file_set_limit(hunkravy_file *file, uint64_t limit) HUNKRAVY_NONNU
 
 /*
  * Writes a MAC under the key, of HUNKRAVY_FILE_COMMITMENT_BYTES, of the state at the last commit: with an older page or
- * header it is different. Keep it where nobody can roll it back together with the file. It reads the tag of each page, and
- * verifies none. The header is that which opening has read, or the last commit has written.
+ * header it is different, unless two MACs are equal by chance. Keep it where nobody can roll it back together with the
+ * file. It reads the tag of each page, and verifies none. The header is that which opening has read, or the last commit
+ * has written.
  */
 HUNKRAVY_MUST_USE int hunkravy_file_commitment(hunkravy_file *file, uint8_t *mac) HUNKRAVY_NONNULL(1, 2);
 

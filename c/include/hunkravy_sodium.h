@@ -16,7 +16,7 @@
  *
  * Different from libsodium:
  *
- * - The functions use neither AES instructions nor look-up tables.
+ * - The functions use neither AES instructions nor look-up tables in memory.
  * - An output must not overlap the key, the nonce, the associated data or, in the detached form, the tag.
  * - The functions are inline, in C89 too: there are no symbols with libsodium's names to link with. A source file includes
  *   either this header or sodium.h; different files of one program may differ.

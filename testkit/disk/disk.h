@@ -3,9 +3,10 @@
  *
  * - After a loss of power, pieces of what was written since the last sync are as they were to be, as they were before,
  *   zeros, or garbage. A size is the new one or an old one.
- * - A sync that fails behaves as on Linux. The disk stores any part of the changes, all of them can be read, and no
- *   later sync stores them. A later sync may not even store what is written over them, until disk_forget makes reads
- *   return what is stored. A deaf disk stores it, and forgets nothing. A disk that lies stores nothing in a sync.
+ * - A sync that fails behaves as on Linux, or worse. The disk stores any part of the changes, all of them can be read,
+ *   and no later sync stores them. Worse than Linux, a later sync may not even store what is written over them, until
+ *   disk_forget makes reads return what is stored. A deaf disk stores it, and forgets nothing. A disk that lies stores
+ *   nothing in a sync.
  * - A name that was made, replaced or removed may be the old one after a loss of power, until its folder is synced.
  *
  * The disk is memory without pointers, so that programs share it, and a copy is another disk.

@@ -70,12 +70,12 @@ IsInitPlain variant =
     ≡ times (init_turns variant.family) (plain_turn variant.family key nonce) (first_blocks variant.family key nonce)
 
 -- a tag of n bytes has n bytes
-abbrev pub IsTagLong : (variant : Variant) (tag_bytes : ℕ) → Type 0
-IsTagLong variant tag_bytes = (key nonce ad m : List ℕ) → length (tag variant tag_bytes key nonce ad m) ≡ tag_bytes
+abbrev pub HasTagLength : (variant : Variant) (tag_bytes : ℕ) → Type 0
+HasTagLength variant tag_bytes = (key nonce ad m : List ℕ) → length (tag variant tag_bytes key nonce ad m) ≡ tag_bytes
 
 -- a MAC of n bytes has n bytes
-abbrev pub IsMacLong : (variant : Variant) (tag_bytes : ℕ) → Type 0
-IsMacLong variant tag_bytes = (key nonce x : List ℕ) → length (mac variant tag_bytes key nonce x) ≡ tag_bytes
+abbrev pub HasMacLength : (variant : Variant) (tag_bytes : ℕ) → Type 0
+HasMacLength variant tag_bytes = (key nonce x : List ℕ) → length (mac variant tag_bytes key nonce x) ≡ tag_bytes
 
 -- under one key and nonce, two inputs of one length that agree at lane 0's places, and for which the other lanes end
 -- with the same tags, have the same MAC

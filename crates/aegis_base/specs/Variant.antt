@@ -41,7 +41,7 @@ abbrev pub key_length : Family → ℕ
 key_length Family128 = 16
 key_length Family256 = 32
 
--- the maximum length of a message, and of associated data, in bytes: 2^64 bits are more (AEGIS specification, P_MAX and A_MAX)
+-- the maximum length of a message, and of associated data, in bytes: 2^64 bits would be too many (AEGIS specification, P_MAX and A_MAX)
 abbrev pub max_aead_bytes : ℕ
 max_aead_bytes = 2 ^ 61 - 1
 

@@ -5,7 +5,7 @@ ghost use Rattle.std.specs.Prelude.{◌≡◌, ℕ};
 ghost use Rattle.aegis_aes.specs.Lanes.{IsLaneCount};
 ghost use Rattle.aegis_base.specs.Variant.{Variant, max_aead_bytes};
 ghost use Rattle.aegis_base.specs.Lane.{IsTagLength};
-ghost use Rattle.aegis_base.specs.Laws.{AreLanesIndependent, IsCiphertextPrefix, IsKeystreamShared, IsLengthKept, IsMacLong, IsMacOfTags, IsOneToOne, IsOnto, IsInitPlain, IsKeystreamPrefix, IsKeystreamSealedZeros, IsKeystreamUndone, IsTagLong};
+ghost use Rattle.aegis_base.specs.Laws.{AreLanesIndependent, IsCiphertextPrefix, IsKeystreamShared, IsLengthKept, HasMacLength, IsMacOfTags, IsOneToOne, IsOnto, IsInitPlain, IsKeystreamPrefix, IsKeystreamSealedZeros, IsKeystreamUndone, HasTagLength};
 
 use crate::error::MAX_AEAD_BYTES;
 
@@ -58,9 +58,9 @@ pub fn init_of_one_lane()
 #[tactic(auto, using(crate::proofs::Lengths::length_tag, crate::proofs::MacFacts::length_mac))]
 pub fn tag_lengths()
     ensures tag { (variant : Variant) (tag_bytes : ℕ) → IsLaneCount variant.lanes
-        → IsTagLength tag_bytes → IsTagLong variant tag_bytes }
+        → IsTagLength tag_bytes → HasTagLength variant tag_bytes }
     ensures mac { (variant : Variant) (tag_bytes : ℕ) → IsLaneCount variant.lanes
-        → IsTagLength tag_bytes → IsMacLong variant tag_bytes }
+        → IsTagLength tag_bytes → HasMacLength variant tag_bytes }
 {}
 
 /// Under one key and nonce, two inputs of one length that agree in the bytes of lane 0, and for which the other lanes

@@ -1,7 +1,7 @@
 //! The exports on a page and a header of a random-access file. `variant` is a number of `aegis_c_calls::variant`. The
 //! caller reads and writes the file.
 //!
-//! Each returns a code of `aegis_c_calls::refusal`. After a code but that of an invalid tag, nothing has changed.
+//! Each returns a code of `aegis_c_calls::refusal`. After an error other than an invalid tag, nothing has changed.
 
 ghost use Rattle.aegis_c_calls.specs.Codes.{variant_numbered};
 ghost use Rattle.aegis_c_calls.specs.PageCalls.{PageHeaderOpen, PageHeaderSeal, PageOpen, PagePlace, PageSeal, header_of};

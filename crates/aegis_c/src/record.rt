@@ -1,7 +1,7 @@
 //! The exports on a record stream, which is sealed and opened a record at a time, in place. The state says what the
 //! stream is sealed under and where its next record is; the context is passed to each call.
 //!
-//! Each returns a code of `aegis_c_calls::refusal`. After a code but that of an invalid tag, nothing has changed.
+//! Each returns a code of `aegis_c_calls::refusal`. After an error other than an invalid tag, nothing has changed.
 
 ghost use Rattle.aegis_c_calls.specs.Calls.{RecordBegin, RecordBeginOpen, RecordBeginOpenAt, RecordLen, RecordOpen, RecordSeal, RecordSealLast};
 

@@ -18,7 +18,7 @@ use Rattle.aegis_storage.specs.Journal.{IsJournal, authenticated, entries, entry
 use Rattle.aegis_storage.specs.declared.journal.TheConstants.{MAX_JOURNAL_BYTES}
 use Rattle.aegis_storage.specs.declared.store.TheConstants.{MAX_STORAGE_BYTES}
 use Rattle.aegis_storage.proofs.Journals.{entries_more, one_journal, same_entry, within_more}
-use Rattle.aegis_c_calls.specs.PageCalls.{AreJournaled, HoldsWrites, IsHeaderIn, IsJournaling, MayBeEmptied, followed_by, header_block_of}
+use Rattle.aegis_c_calls.specs.PageCalls.{AreJournaled, HoldsWrites, IsHeaderIn, IsJournaling, MayBeMadeAgainOrEmptied, followed_by, header_block_of}
 use Rattle.aegis_c_calls.specs.declared.state.State.{State}
 use Rattle.aegis_c_calls.proofs.OneRecord.{one_header}
 
@@ -121,7 +121,7 @@ one_journaled variant key journal (Some vs) (Some ws) p q = ap Some (one_journal
 
 -- what was found decides
 pub decided : (variant : Variant) (key file journal : List ℕ) (header : Option FileHeader) (writes : Option Writes) → IsLaneCount variant.lanes → IsHeaderIn variant key file header → AreJournaled variant key journal writes
-    → MayBeEmptied variant key file journal → IsJournalAccepted variant key (header_block_of file) header writes journal
+    → MayBeMadeAgainOrEmptied variant key file journal → IsJournalAccepted variant key (header_block_of file) header writes journal
 decided variant key file journal header writes count is are may =
     subst (λ (o : Option FileHeader). IsJournalAccepted variant key (header_block_of file) o writes journal) (one_header_in variant key file may.0 header count may.2 is)
     (subst (λ (o : Option Writes). IsJournalAccepted variant key (header_block_of file) may.0 o journal) (one_journaled variant key journal may.1 writes may.3 are) may.4)
@@ -177,11 +177,11 @@ was_read now variant k key made file journal header_block header content accepte
     )
 
 pub may_be : (variant : Variant) (key file journal : List ℕ) (header : Option FileHeader) (writes : Option Writes) (accepted : Bool)
-    → WasRead variant key file journal header writes accepted → accepted ≡ true → MayBeEmptied variant key file journal
+    → WasRead variant key file journal header writes accepted → accepted ≡ true → MayBeMadeAgainOrEmptied variant key file journal
 may_be variant key file journal header writes accepted read same = (header, writes, read.is, read.are, read.decides.0 same)
 
 pub may_not_be : (variant : Variant) (key file journal : List ℕ) (header : Option FileHeader) (writes : Option Writes) (accepted : Bool)
-    → WasRead variant key file journal header writes accepted → accepted ≡ false → MayBeEmptied variant key file journal → ⊥
+    → WasRead variant key file journal header writes accepted → accepted ≡ false → MayBeMadeAgainOrEmptied variant key file journal → ⊥
 may_not_be variant key file journal header writes accepted read same may =
     let is : IsTrue accepted = read.decides.1 (decided variant key file journal header writes read.count read.is read.are may) in
     false_is_not (subst IsTrue same is)
@@ -193,7 +193,7 @@ block_is file n same long = grind (arith, long)
 -- a whole journal whose commit began or ended with the first bytes of the file
 pub own_may_be : (variant : Variant) (key file journal : List ℕ) (header : Option FileHeader) (writes : Option Writes) (accepted : Bool)
     → WasRead variant key file journal header writes accepted → (own : Writes) → IsJournal (journal_key variant key) [] own journal → 512 ≤ length file
-    → IsOfCommit (take (head_bytes variant) (take 512 file)) own → MayBeEmptied variant key file journal
+    → IsOfCommit (take (head_bytes variant) (take 512 file)) own → MayBeMadeAgainOrEmptied variant key file journal
 own_may_be variant key file journal header writes accepted read own is long of_commit = (header, Some own, read.is, is, accept header)
   where
     accept : (h : Option FileHeader) → IsJournalAccepted variant key (header_block_of file) h (Some own) journal

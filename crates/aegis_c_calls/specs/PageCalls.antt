@@ -1,5 +1,4 @@
--- What each call on a page, a header or a journal of `aegis_pages` does, for the variant that its number names: the code that it
--- returns, and the bytes at its pointers before and after it. If no variant has the number, it changes nothing.
+-- What each call on a page, a header or a journal does: its code and its bytes. If no variant has its number, nothing changes.
 use Rattle.std.specs.Prelude.{ℕ, ℤ, ◌+◌, ◌-◌, leb, Option, Some, None, if◌then◌else◌, ◌≡◌, ◌≢◌, List, drop, length, replicate, take, ◌<◌, ◌≤◌, [], ◌∷◌, ◌++◌}
 use Rattle.aegis_base.specs.Variant.{Aegis128L, Variant, key_length, long_tag_bytes}
 use Rattle.aegis_base.specs.Message.{erased_byte}
@@ -66,6 +65,7 @@ pub record PageHeaderSeal (variant : Option Variant) (key id nonce : List ℕ) (
   pub answered : code ≡ header_seal_code variant (length key) (length nonce) page_bytes len
   pub sealed : code ≡ success → IsHeaderBlock (file_of (the variant) key id page_bytes) counter len header_block'
   pub under : code ≡ success → part_at header_block' plaintext_header_bytes (key_length (the variant).family) ≡ nonce
+  pub padding : code ≡ success → drop (head_bytes (the variant)) header_block' ≡ replicate (header_block_bytes - head_bytes (the variant)) 0
   pub kept : code ≢ success → header_block' ≡ header_block
 
 -- the header block has this header, which was sealed under the key
@@ -142,8 +142,8 @@ AreJournaled variant key journal (Some writes) = IsJournal (journal_key variant 
 AreJournaled variant key journal None = (writes : Writes) → IsJournal (journal_key variant key) [] writes journal → ⊥
 
 -- the journal may be made again, or emptied
-abbrev pub MayBeEmptied : (variant : Variant) (key file journal : List ℕ) → Type 0
-MayBeEmptied variant key file journal =
+abbrev pub MayBeMadeAgainOrEmptied : (variant : Variant) (key file journal : List ℕ) → Type 0
+MayBeMadeAgainOrEmptied variant key file journal =
     (header : Option FileHeader) × (writes : Option Writes) × IsHeaderIn variant key file header × AreJournaled variant key journal writes
     × IsJournalAccepted variant key (header_block_of file) header writes journal
 
@@ -153,8 +153,8 @@ pub record JournalCheck (variant : Option Variant) (key file journal : List ℕ)
   pub answered : code ≢ number_of InvalidTag → code ≢ number_of WrongJournal → code ≡ keyed_code variant (length key) success
   pub lengths : code ≡ number_of InvalidTag → keyed_code variant (length key) success ≡ success
   pub other : code ≡ number_of WrongJournal → keyed_code variant (length key) success ≡ success
-  pub accepted : code ≡ success → MayBeEmptied (the variant) key file journal
-  pub complete : MayBeEmptied (the variant) key file journal → keyed_code variant (length key) success ≡ success → code ≡ success
+  pub accepted : code ≡ success → MayBeMadeAgainOrEmptied (the variant) key file journal
+  pub complete : MayBeMadeAgainOrEmptied (the variant) key file journal → keyed_code variant (length key) success ≡ success → code ≡ success
   -- also known without the header: a whole journal whose commit began or ended with the first bytes of the file
   pub own : (writes : Writes) → IsJournal (journal_key (the variant) key) [] writes journal → header_block_bytes ≤ length file → IsOfCommit (take (head_bytes (the variant)) (take header_block_bytes file)) writes
       → keyed_code variant (length key) success ≡ success → code ≡ success

@@ -1,4 +1,4 @@
--- A counter that is kept in a sealed file.
+-- A counter that is kept in a random-access file.
 use Rattle.std.specs.Prelude.{ℕ, List}
 use Rattle.std.specs.Int.{to_le_bytes, w64}
 

@@ -2,15 +2,18 @@
 
 ghost use Rattle.std.specs.Prelude.{◌≡◌, ◌+◌, ◌*◌, ◌<◌, ◌≤◌, ◌⊎◌, Err, IfErr, IfOk, List, length, ℕ};
 ghost use Rattle.aegis_base.specs.declared.error.TheConstants.{MAX_AEAD_BYTES};
-ghost use Rattle.aegis.specs.RecordStream.{IsFaultAt, position_after, sealed, start_at};
+ghost use Rattle.aegis.specs.RecordStream.{IsFaultAt, first_position, header, position_after, prefix_bytes, sealed, start_at};
 ghost use Rattle.aegis_files.specs.Opening.{AreContentsFrom, AreFrom, IsFileInPieces, IsFileWithPrefix, IsSealedFile, part_of, part_of_contents, pieces_in};
 ghost use Rattle.aegis.specs.declared.record.error.RecordError.{RecordError};
 ghost use Rattle.aegis.specs.declared.record.version.Version.TheVariants.{Second};
 
 use aegis::aegis256::Key;
-use aegis::record::{MAX_CONTEXT_BYTES, RecordError};
-use aegis_files::laws::{damaged_record, one_contents};
-use aegis_files::{ContentsRange, FileError, open_range, open_stream, rekey_stream, seal_stream};
+use aegis::record::{MAX_CONTEXT_BYTES, RecordError, RecordPosition};
+use aegis_files::laws::{damaged_record, first_record, one_contents};
+use aegis_files::{
+    BEGINNING_BYTES, ContentsRange, FIRST, FileError, open_range, open_stream, rekey_stream,
+    seal_stream,
+};
 use std::alloc::Allocator;
 
 /// Seals contents, and returns the file: it has 65 bytes more than the contents, and 37 for each piece of 65,536 bytes.
@@ -91,6 +94,15 @@ pub fn sealed_and_opened<A: Allocator + Copy>(
     one_contents();
     let file = seal_contents(alloc, key, prefix, context, contents)?;
     open_contents(alloc, key, context, &file)
+}
+
+/// Returns the place of a file's first record, and its position: from there [`open_part`] opens a part at the beginning.
+pub fn first_place() -> (usize, RecordPosition)
+    ensures place { result.0 ≡ prefix_bytes + length (header Second) }
+    ensures position { result.1 ≡ first_position Second }
+{
+    first_record();
+    (BEGINNING_BYTES, FIRST)
 }
 
 /// Opens a part of the contents, and returns it: `records` are the bytes of the file from the record at the part's

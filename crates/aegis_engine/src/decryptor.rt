@@ -17,7 +17,8 @@ use std::fmt;
 /// Opens a ciphertext in chunks of any lengths, into a destination that it borrows until the end of the message.
 ///
 /// `Cipher::decryptor` creates one. The bytes that are written to the destination must not be used before `finalize` or
-/// `finalize_len` has accepted the tag. After a wrong tag, or if the decryptor is dropped, they are zeros.
+/// `finalize_len` has accepted the tag. After a wrong tag, or if the decryptor is dropped, they are zeros. A decryptor
+/// that is forgotten (`mem::forget`) erases nothing.
 ///
 /// Contracts state the key, nonce, associated data and message so far that a decryptor stands for: the message is the
 /// start of the destination.

@@ -3,11 +3,13 @@
 
 ghost use Rattle.std.specs.Prelude.{◌≡◌, ◌+◌, ◌*◌, ◌<◌, ◌≤◌, ◌∷◌, ◌++◌, [], List, Option, length, ℕ};
 ghost use Rattle.std.specs.List.{AllByRecursion, concat};
-ghost use Rattle.aegis.specs.RecordStream.{prefix_bytes, record_overhead};
+ghost use Rattle.aegis.specs.RecordStream.{first_position, header, prefix_bytes, record_overhead};
+ghost use Rattle.aegis.specs.declared.record.version.Version.TheVariants.{Second};
 ghost use Rattle.aegis.specs.declared.record.error.RecordError.TheVariants.{Damaged};
 ghost use Rattle.aegis_files.specs.Opening.{IsSealedFile, RefusesFile, StopsRange, piece_bytes, pieces_in, pieces_of};
 
 use crate::error::FileError;
+use crate::open::{BEGINNING_BYTES, FIRST};
 use crate::range::ContentsRange;
 use crate::seal::PIECE_BYTES;
 
@@ -38,6 +40,14 @@ pub fn damaged_record()
         × (record_overhead * (k + 1)
         ≤ record_overhead * range.position.number + length stream) }
 {}
+
+/// The length of what a file has in front of its first record, and the position of that, are those of the definitions.
+pub fn first_record()
+    ensures beginning { BEGINNING_BYTES ≡ prefix_bytes + length (header Second) }
+    ensures position { FIRST ≡ first_position Second }
+{
+    let (_beginning, _position) = (BEGINNING_BYTES, FIRST);
+}
 
 /// The pieces of contents, one after the other, are the contents. Each has 65,536 bytes, but the last one, which has at
 /// least one.

@@ -3,6 +3,9 @@
 //! [`seal_stream`], [`open_stream`], [`open_range`] and [`rekey_stream`] read from any reader and write to any writer,
 //! and hold one piece in memory. The caller chooses the key and the prefix. A prefix that was used before under the
 //! same key is not detected.
+//!
+//! The contracts speak of readers and writers whose bytes are known, such as slices and vectors. For others, such as
+//! files, they state nothing of the contents: the same code is tested there.
 #![tactic(auto)]
 
 mod error;

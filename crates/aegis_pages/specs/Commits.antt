@@ -115,7 +115,7 @@ HasHonestHeader {variant} {key} batch bytes = (layout : Layout) (counter len : �
     → IsOneOf (head_of variant batch.file) (head_of variant (after_writes batch.writes batch.file)) (head_of variant bytes)
 
 -- What can be read of the storage and of the journal is what a commit left, whatever it returned and whatever a crash
--- and openings that were cut short did since, and no forgery.
+-- and openings that were cut short did since, with no forged header and no other whole journal.
 unfoldable pub IsLeftByCommit : Variant → (key : List ℕ) → (bytes content : Option (List ℕ)) → (storage journal : Option Disk) → Type 0
 IsLeftByCommit variant key bytes content storage journal =
     (before : List ℕ) × (now : List ℕ) × (batch : RecoversContentsUnlessOtherJournal variant key before now storage journal) × IfSome content (IsHonest batch) × IfSome bytes (HasHonestHeader batch)

@@ -1,7 +1,7 @@
 //! The commitment of a file: one MAC over the tags of all pages.
 //!
-//! A page's tag stands for its nonce, its ciphertext and its number in this file. So a MAC over the tags in order, and
-//! over the newest header's counter and length, stands for the whole file.
+//! The tag of a page that opens stands for its nonce, its ciphertext and its number in this file. So a MAC over the
+//! tags in order, and over the newest header's counter and length, stands for all of a file whose pages open.
 
 ghost use Rattle.std.specs.Prelude.{◌≡◌, ◌*◌, ◌≤◌, false, IfErr, IfOk, IfSome, OnOk};
 ghost use Rattle.aegis_pages.specs.Commits.{IsStorageReadError, IsVerifyRefusal, commitment, page_tag};

@@ -151,7 +151,7 @@ impl<
     ///
     /// Returns [`PagesError::PageSize`], [`PagesError::OutOfMemory`], [`PagesError::Journal`] if the journal is not
     /// empty, [`PagesError::Read`] if it has no size, or [`PagesError::Nonce`] before the storage is changed, and
-    /// [`PagesError::Write`] after it may have been.
+    /// [`PagesError::Write`] after it may have been. No clause says when: the storage is passed by value.
     /// If a crash interrupts it, create the file again.
     pub fn create(
         alloc: A,

@@ -50,7 +50,8 @@ pub fn recovers_after_a_crash()
 {}
 
 /// Wherever the steps of a commit stop, because the program or the system does or because a call fails: recovery gives
-/// what the storage held before the commit, or all of its writes over it. A sync that fails may lose what was pending.
+/// what the storage held before the commit, or all of its writes over it, unless a crash leaves another whole journal.
+/// A sync that fails may lose what was pending.
 pub fn commit_recovers_at_any_step()
     ensures { (key context journal xs : List ℕ) (writes : Writes) (k : ℕ) (s j : StorageState)
         → IsJournal key context writes journal
@@ -76,8 +77,9 @@ pub fn commit_keeps_the_beginning()
         → KeepsBeginning (take 512 journal) (Some j.disk) }
 {}
 
-/// What recovers before a recovery does so wherever its steps stop: `s` and `j` are what can be read of the storage and
-/// of the journal and what a crash may leave of them as it begins, and `found` are the writes that it finds.
+/// What recovers before a recovery, unless a crash leaves another whole journal, does so wherever its steps stop: `s`
+/// and `j` are what can be read of the storage and of the journal and what a crash may leave of them as it begins, and
+/// `found` are the writes that it finds.
 pub fn recovery_recovers_at_any_step()
     ensures { (key context xs : List ℕ) (writes found : Writes) (s j s' j' : StorageState) (k : ℕ)
         → Recoverable key context xs writes found s j

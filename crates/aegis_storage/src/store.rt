@@ -90,9 +90,10 @@ pub trait Storage {
         ensures spoilt { OnErr result (Spoils (disk self.old) (disk self.new) []) }
         ensures cause { IfErr result errors };
 
-    /// Returns once a crash leaves all that was written since the last call that failed. For a file the system must
-    /// ensure that; a vector's contract speaks of the model alone. After an error what was written may be lost for
-    /// ever, although it can be read: no later sync makes it certain, unless it is written again, or replaced.
+    /// Returns once a crash leaves what can be read, unless an earlier call failed and not all that may be lost was
+    /// written again since, or replaced: then this may be lost too. For a file the system must ensure that; a vector's
+    /// contract speaks of the model alone. After an error what was pending may be lost for ever, although it can be
+    /// read.
     fn sync(&mut self) -> io::Result<()>
         ensures kept { Keeps (bytes self.old) (bytes self.new) }
         ensures synced { OnOk result (IsSynced (disk self.old) (disk self.new)) }

@@ -3,25 +3,28 @@
 
 ghost use Rattle.std.specs.Prelude.{◌≡◌, ◌+◌, ◌*◌, ◌<◌, ◌≤◌, ◌++◌, List, length, ℕ};
 ghost use Rattle.aegis_base.specs.Message.{erased_byte};
+ghost use Rattle.aegis_base.specs.Variant.{long_tag_bytes};
 ghost use Rattle.aegis.specs.RecordStream.{AreRecords, IsFault, IsOneFault, IsOneRecordStream, header, limit, max_context_bytes, record_overhead, records_length, sealed};
 ghost use Rattle.aegis.specs.RecordResults.{AreRecordsOfSomeVersion, Begun, Progress, start_of};
 ghost use Rattle.aegis.specs.declared.record.error.RecordError.TheVariants.{Damaged, Trailing};
 ghost use Rattle.aegis.specs.declared.record.version.Version.{Version};
 
-use crate::record::length::{HEADER_BYTES, RECORD_BYTES};
+use crate::record::length::{HEADER_BYTES, RECORD_BYTES, RECORD_HEAD_BYTES};
 use crate::record::record_cipher::MAX_CONTEXT_BYTES;
 use crate::record::version::{MAX_MESSAGE_BYTES, Version};
 use aegis_engine::ERASED;
 
-/// The limits are those of the definitions, and so are the lengths of a header, and of a record without its message.
+/// The limits are those of the definitions, and so are the lengths of a header, and of a record without its message:
+/// of its head and of its tag.
 pub fn record_limits()
     ensures context { MAX_CONTEXT_BYTES ≡ max_context_bytes }
     ensures message { MAX_MESSAGE_BYTES ≡ limit Version.Second }
     ensures header { HEADER_BYTES ≡ length (header Version.Second) }
     ensures record { RECORD_BYTES ≡ record_overhead }
+    ensures head { RECORD_HEAD_BYTES + long_tag_bytes ≡ record_overhead }
 {
     let (_context, _message) = (MAX_CONTEXT_BYTES, MAX_MESSAGE_BYTES);
-    let (_header, _record) = (HEADER_BYTES, RECORD_BYTES);
+    let (_header, _record, _head) = (HEADER_BYTES, RECORD_BYTES, RECORD_HEAD_BYTES);
 }
 
 /// What overwrites a message that is not authentic is the byte of the definitions.
@@ -43,8 +46,8 @@ pub fn one_fault()
     ensures { (key prefix context : List ℕ) → IsOneFault (sealed key prefix context) }
 {}
 
-/// The number that [`Damaged`](crate::record::RecordError::Damaged) has is bounded by the length of the bytes: they are no
-/// fewer than a header, and 37 bytes for this record and for each one before it.
+/// The number that [`Damaged`](crate::record::RecordError::Damaged) has is bounded by the length of the bytes: they are
+/// no fewer than a header, and 37 bytes for this record and for each one before it.
 #[tactic(auto, using(crate::proofs::Lengths::damaged_laws))]
 pub fn damaged_within()
     ensures { (key prefix context bytes : List ℕ) (k : ℕ)

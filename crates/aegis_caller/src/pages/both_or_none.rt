@@ -101,8 +101,8 @@ pub fn write_both<S: Storage, J: Storage, A: Allocator + Copy>(
     )
 }
 
-/// Opens a storage after a crash that has not left a forged journal: with `Ok` it has both writes or none, and is ready
-/// for the next ones.
+/// Opens a storage after a crash that has left no other whole journal: with `Ok` it has both writes or none, and is
+/// ready for the next ones.
 pub fn open_both<S: Storage, J: Storage, A: Allocator + Copy>(
     alloc: A,
     storage: &mut S,

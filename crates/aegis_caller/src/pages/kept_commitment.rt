@@ -1,4 +1,4 @@
-//! A sealed file whose commitment is kept elsewhere.
+//! A random-access file whose commitment is kept elsewhere.
 
 ghost use Rattle.std.specs.Prelude.{IfOk, IfSome};
 ghost use Rattle.aegis_base.specs.Variant.{Aegis256};

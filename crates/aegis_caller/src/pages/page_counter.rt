@@ -1,4 +1,4 @@
-//! A counter that is kept in a sealed file.
+//! A counter that is kept in a random-access file.
 
 ghost use Rattle.std.specs.Prelude.{◌≡◌, ◌+◌, ◌^◌, ◌<◌, IfOk, OnOk, ℕ};
 ghost use Rattle.aegis_pages.specs.OpenFile.{HasCommitted, HasContents, IsStoredAs, IsUnchanged};

@@ -1,4 +1,4 @@
-//! A table of rows of 64 bytes in a sealed file.
+//! A table of rows of 64 bytes in a random-access file.
 
 ghost use Rattle.std.specs.Prelude.{◌≡◌, ◌+◌, ◌*◌, ◌<◌, ◌≤◌, IfOk, IfSome, List, OnErr, OnOk, length, ℕ};
 ghost use Rattle.aegis_storage.specs.Disk.{overwritten, part_at};
@@ -101,8 +101,8 @@ pub fn commit_rows<S: Storage + Drop, J: Storage + Drop, N: Nonces + Drop, A: Al
     pages.commit()
 }
 
-/// Opens the table after a crash, unless that has left a forged journal. It is that of the last commit, or of the one
-/// that was cut short, and ready for more.
+/// Opens the table after a crash, unless that has left another whole journal. It is that of the last commit, or of the
+/// one that was cut short, and ready for more.
 pub fn open_table<S: Storage + Drop, J: Storage + Drop, N: Nonces + Drop, A: Allocator + Copy>(
     alloc: A,
     storage: S,

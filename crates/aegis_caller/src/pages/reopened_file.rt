@@ -1,4 +1,5 @@
-//! A sealed file that is opened again: after a commit that returned `Ok`, and whatever a commit and a crash left.
+//! A random-access file that is opened again: after a commit that returned `Ok`, and whatever a commit and a crash
+//! left.
 
 ghost use Rattle.std.specs.Prelude.{◌≡◌, ◌≢◌, Err, IfOk, IsSome, List, ℕ};
 ghost use Rattle.aegis_base.specs.Variant.{Aegis256};
@@ -26,7 +27,7 @@ pub fn reopened<S: Storage + Drop, J: Storage + Drop, N: Nonces + Drop, A: Alloc
 }
 
 /// Opens a file, or returns `None` if a person has to find out whose journal or which key this is. After a commit and a
-/// crash it is never `None`.
+/// crash it is never `None`, unless that leaves another whole journal or a forged header.
 pub fn reopened_or_asked<
     S: Storage + Drop,
     J: Storage + Drop,

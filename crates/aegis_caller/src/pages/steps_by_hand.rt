@@ -13,8 +13,8 @@ use aegis_storage::laws::{
 use aegis_storage::{Step, commit_step, recovery_step};
 
 /// Returns the next step of a commit of so many writes, of which `taken` steps were taken. Wherever a program stops
-/// that takes these steps, recovery gives the contents before the commit or those after it. After the last step the
-/// contents are those after it, and a crash leaves no others.
+/// that takes these steps, recovery gives the contents before the commit or those after it, unless a crash leaves
+/// another whole journal. After the last step the contents are those after it, and a crash leaves no others.
 pub fn next_of_commit(taken: u64, writes: u64) -> Step
     ensures asked { result ≡ step_at (commit_steps writes) taken }
     ensures recovers { (key context journal xs : List ℕ) (writes : Writes) (k : ℕ)
@@ -39,8 +39,9 @@ pub fn next_of_commit(taken: u64, writes: u64) -> Step
 }
 
 /// Returns the next step of a recovery, of which `taken` steps were taken, by a journal of so many writes. Wherever a
-/// program stops that takes these steps, a later recovery gives the contents before the commit or those after it.
-/// After the last step they are one or the other, and a crash leaves no others.
+/// program stops that takes these steps, a later recovery gives the contents before the commit or those after it,
+/// unless a crash leaves another whole journal. After the last step they are one or the other, and a crash leaves no
+/// others.
 pub fn next_of_recovery(taken: u64, writes: u64) -> Step
     ensures asked { result ≡ step_at (recovery_steps writes) taken }
     ensures recovers { (key context xs : List ℕ) (writes found : Writes) (s j s' j' : StorageState)
