@@ -96,7 +96,8 @@ pub fn sealed_and_opened<A: Allocator + Copy>(
     open_contents(alloc, key, context, &file)
 }
 
-/// Returns the place of a file's first record, and its position: from there [`open_part`] opens a part at the beginning.
+/// Returns the place of a file's first record, and its position. From there [`open_part`] opens a part at the
+/// beginning.
 pub fn first_place() -> (usize, RecordPosition)
     ensures place { result.0 ≡ prefix_bytes + length (header Second) }
     ensures position { result.1 ≡ first_position Second }

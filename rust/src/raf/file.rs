@@ -51,14 +51,7 @@ impl FileIo {
     }
 
     fn of(file: File, path: Option<PathBuf>, owner: Option<Process>) -> Self {
-        FileIo {
-            file,
-            is_name_synced: path.is_none(),
-            path,
-            owner,
-            is_locked: false,
-            stage: Stage::Complete,
-        }
+        FileIo { file, is_name_synced: path.is_none(), path, owner, is_locked: false, stage: Stage::Complete }
     }
 
     /// Opens the file at a path, and creates it if there is none. Its contents are kept.
