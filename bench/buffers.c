@@ -1,17 +1,21 @@
 /*
  * Encrypts in place and to another buffer, in turns, and prints the time of each turn for table.py. Both buffers were
- * touched before. The turns are made at four places of the stack, as in peers.c.
+ * touched before, and are in huge pages, if the system has any. The turns are made at four places of the stack, as in
+ * peers.c.
  */
+#define _DEFAULT_SOURCE
 #include "hunkravy.h"
 
 #include <stdio.h>
 #include <stdlib.h>
+#include <sys/mman.h>
 #include <time.h>
 
 #define TURNS 96
 #define PLACES 4
 #define TURN_BYTES (64 * 1024)
 #define LONGEST (64 * 1024 * 1024)
+#define HUGE_PAGE (2 * 1024 * 1024)
 
 static const struct {
     size_t length;
@@ -22,7 +26,7 @@ static const char *const VARIANTS[] = {
 
 #define COUNT(values) (sizeof(values) / sizeof(values)[0])
 
-static uint8_t buffer[LONGEST], other[LONGEST];
+static _Alignas(HUGE_PAGE) uint8_t buffer[LONGEST], other[LONGEST];
 
 static void encrypt(uint32_t variant, uint8_t *to, size_t length)
 {
@@ -65,6 +69,8 @@ static void turn(uint32_t variant, size_t size, uint8_t *to, size_t place)
 
 int main(void)
 {
+    (void)!madvise(buffer, sizeof buffer, MADV_HUGEPAGE);
+    (void)!madvise(other, sizeof other, MADV_HUGEPAGE);
     for (size_t i = 0; i < TURNS; i++) {
         for (size_t size = 0; size < COUNT(SIZES) && (SIZES[size].length < LONGEST || i % 8 < PLACES); size++) {
             for (uint32_t variant = 0; variant < COUNT(VARIANTS); variant++) {

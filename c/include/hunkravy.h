@@ -63,7 +63,7 @@
 extern "C" {
 #endif
 
-/* gcc and clang warn if the result is not used, and if a pointer that is never null, by its place, is null. */
+/* gcc and clang warn if the result is not used, and if null is passed where it is never allowed. */
 #if defined(__GNUC__) || defined(__clang__)
 #define HUNKRAVY_MUST_USE __attribute__((warn_unused_result))
 #define HUNKRAVY_NONNULL(...) __attribute__((nonnull(__VA_ARGS__)))
@@ -84,7 +84,7 @@ enum hunkravy_code {
     HUNKRAVY_WRONG_KEY_LENGTH = -3,
     /* The message, or the input of a MAC, has more than HUNKRAVY_MAX_BYTES, or the message of a record is too long. */
     HUNKRAVY_MESSAGE_TOO_LONG = -4,
-    /* The associated data have more than HUNKRAVY_MAX_BYTES. */
+    /* The associated data has more than HUNKRAVY_MAX_BYTES. */
     HUNKRAVY_DATA_TOO_LONG = -5,
     /* The tag, or the MAC, has neither 16 nor 32 bytes. */
     HUNKRAVY_WRONG_TAG_LENGTH = -6,

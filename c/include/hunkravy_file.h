@@ -42,8 +42,8 @@
  * - HUNKRAVY_DAMAGED_PAGE: a page is not authentic. hunkravy_file_damaged_page has its number.
  * - HUNKRAVY_FILE_TOO_LONG: the contents would be longer than 2^60 bytes, or no more commits are possible.
  * - HUNKRAVY_FILE_LOCKED: the file is open already, here or in another process. After a fork it is open in the process
- *   that opened it. If that one ends, the file stays locked until the child ends too. A child that clone has made is only
- *   kept from commits, by its number.
+ *   that opened it. If that one ends, the file stays locked until the child ends too. A child made with clone is only
+ *   kept from commits, by its process ID.
  * - HUNKRAVY_FILE_MOVED: the file was renamed, removed or replaced, or has several hard links: its journal would not be
  *   found.
  * - HUNKRAVY_FILE_BROKEN: an earlier commit has failed, and may be in the file in part. Close the file, and open it again.
@@ -76,15 +76,15 @@ HUNKRAVY_MUST_USE int hunkravy_file_create(hunkravy_file **file, const char *pat
 
 /*
  * Opens and locks the file at a path, and completes a commit that was interrupted, or discards all of it. After an error
- * `*file` is null. After any of the codes above nothing has changed. Exception: HUNKRAVY_NO_FILE may follow a journal that
- * was made with the key and has no header in it. After another error of the system than EINVAL, open the file again.
+ * `*file` is null. After any of the codes above nothing has changed. Exception: before HUNKRAVY_NO_FILE, a journal that was
+ * made with the key and has no header may have been applied. After any system error except EINVAL, open the file again.
  */
 HUNKRAVY_MUST_USE int hunkravy_file_open(hunkravy_file **file, const char *path, uint32_t variant, const uint8_t *k,
     size_t klen) HUNKRAVY_NONNULL(1, 2);
 
 /*
  * Commits the changes, and frees the file, also after an error. A process that did not open the file only frees it: its
- * storage is closed, and must not unlock it for the other one. A null pointer is no file, and the result is HUNKRAVY_OK.
+ * storage is closed, and must not unlock it for the other one. For a null pointer it only returns HUNKRAVY_OK.
  *
  * Nothing is committed, and the result is the reason's code, if a batch is open or if the file is broken. The same holds
  * if a change or a commit has failed and none has been committed since: the pending changes may be a part of what was
@@ -104,9 +104,9 @@ HUNKRAVY_MUST_USE int hunkravy_file_read(hunkravy_file *file, uint64_t offset, v
     size_t *readlen) HUNKRAVY_NONNULL(1, 5);
 
 /*
- * Writes over the contents from `offset` on. Zeros fill a gap in front, also if `datalen` is 0. The change stays in memory.
- * Outside a batch a write after which more than 16 MiB of pages are changed commits. After an error nothing has changed,
- * unless it is one of that commit: then the change is made, and pending. EINVAL is for a null `data` with a length.
+ * Writes over the contents from `offset` on. Zeros fill a gap in front, even if `datalen` is 0. The change stays in memory.
+ * Outside a batch, a write commits once more than 16 MiB of pages are changed. After an error nothing has changed, unless
+ * it is one of that commit: then the change is made, and pending. EINVAL is for a null `data` with a length.
  */
 HUNKRAVY_MUST_USE int hunkravy_file_write(hunkravy_file *file, uint64_t offset, const void *data, size_t datalen)
     HUNKRAVY_NONNULL(1);
@@ -118,7 +118,7 @@ HUNKRAVY_MUST_USE int hunkravy_file_write(hunkravy_file *file, uint64_t offset, 
 HUNKRAVY_MUST_USE int hunkravy_file_truncate(hunkravy_file *file, uint64_t size) HUNKRAVY_NONNULL(1);
 
 /*
- * Writes all changes, so that after a crash all of them are there, or none; after HUNKRAVY_OK they are. Without changes
+ * Writes all changes, so that after a crash all of them are there, or none; after HUNKRAVY_OK all are. Without changes
  * nothing is written. After an error the changes are still pending, and at most the file has become longer, unless it is
  * broken (hunkravy_file_check): then opening it again gives the contents before the changes or after them.
  */
@@ -146,10 +146,10 @@ uint64_t hunkravy_file_open_batches(const hunkravy_file *file) HUNKRAVY_NONNULL(
 void hunkravy_file_set_limit(hunkravy_file *file, uint64_t limit) HUNKRAVY_NONNULL(1);
 
 /*
- * Writes a MAC under the key, of HUNKRAVY_FILE_COMMITMENT_BYTES, of the state at the last commit: with an older page or
+ * Writes a MAC of HUNKRAVY_FILE_COMMITMENT_BYTES, under the key, over the state at the last commit: with an older page or
  * header it is different, unless two MACs are equal by chance. Keep it where nobody can roll it back together with the
- * file. It reads the tag of each page, and verifies none. The header is that which opening has read, or the last commit
- * has written.
+ * file. It reads the tag of each page, and verifies none. It covers the header that opening read or the last commit
+ * wrote.
  */
 HUNKRAVY_MUST_USE int hunkravy_file_commitment(hunkravy_file *file, uint8_t *mac) HUNKRAVY_NONNULL(1, 2);
 
@@ -162,14 +162,14 @@ uint64_t hunkravy_file_damaged_page(const hunkravy_file *file) HUNKRAVY_NONNULL(
 /* Returns the message of a code, in English, or that of strerror for an error number of the system. */
 const char *hunkravy_file_error_text(int code);
 
-/* ---- Files in another storage than files of the system */
+/* ---- Files in storages other than the file system */
 
 /* The two parts of a storage. */
 enum hunkravy_part { HUNKRAVY_PART_FILE, HUNKRAVY_PART_JOURNAL };
 
 /*
  * A storage of a file and its journal. Its functions are called from one thread at a time. Each returns HUNKRAVY_OK, one of
- * the codes above, or an error number of the system. A pointer may be null where it says so.
+ * the codes above, or a system error number. A pointer may be null where it says so.
  *
  * Until `sync` has returned HUNKRAVY_OK a crash may leave any bytes where something was written, and the old size or the
  * new one. No other byte changes.
@@ -186,16 +186,16 @@ struct hunkravy_storage {
     int (*resize)(void *context, enum hunkravy_part part, uint64_t size);
     /* Returns HUNKRAVY_OK once everything that was written survives a loss of power. */
     int (*sync)(void *context, enum hunkravy_part part);
-    /* Makes `bytes` those of the journal, so that a crash leaves the old ones or these, and syncs them. May be null if all
-     * that can be read after a `sync` that has failed is stored by the next one. */
+    /* Replaces the journal's bytes with `bytes`, and syncs. A crash leaves the old ones or the new. May be null if the `sync`
+     * after a failed one stores everything that can be read. */
     int (*replace)(void *context, const uint8_t *bytes, size_t length);
-    /* Makes reads return what would survive a loss of power now, also after a sync that failed. May be null. */
+    /* Makes reads return what would survive a loss of power now, even after a sync that failed. May be null. */
     int (*forget)(void *context, enum hunkravy_part part);
     /* Locks it against all others until `close`. May be null. */
     int (*lock)(void *context);
     /* Checks that a later opening would find both parts by their names, which then survive a loss of power. May be null. */
     int (*check)(void *context);
-    /* Makes room for writes to the file from `from` up to `end`, unless they are equal, and an empty journal. The bytes from
+    /* Makes room in the file from `from` up to `end`, unless they are equal, and makes an empty journal. The bytes from
      * `from` on are not in use, and may become zeros. Called before a commit writes. May be null. */
     int (*reserve)(void *context, uint64_t from, uint64_t end);
     /* Fills `bytes` with random ones. Never the same twice under one key. */
@@ -205,8 +205,8 @@ struct hunkravy_storage {
 };
 
 /*
- * Like hunkravy_file_create, in an empty storage. It is closed with the file, and after an error. After one of the storage
- * it may have a header: empty it before another call.
+ * Like hunkravy_file_create, in an empty storage. The storage is closed with the file, and after an error. After a storage
+ * error it may hold a header: empty it before another call.
  */
 HUNKRAVY_MUST_USE int hunkravy_file_create_in(hunkravy_file **file, const struct hunkravy_storage *storage,
     uint32_t variant, const uint8_t *k, size_t klen, uint32_t page_size) HUNKRAVY_NONNULL(1, 2);

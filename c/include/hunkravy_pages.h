@@ -31,7 +31,7 @@ extern "C" {
 
 #define HUNKRAVY_PAGE_ID_BYTES 24
 #define HUNKRAVY_PAGE_TAG_BYTES 32
-/* The most bytes that a page has beside its contents: its nonce and its tag. */
+/* The most bytes that a page has besides its contents: its nonce and its tag. */
 #define HUNKRAVY_PAGE_MAX_ADDED_BYTES 64
 /* The page size, in bytes of contents: minimum, maximum, and default for nonces of this length. With the default a page
  * fills a block of 4,096 bytes. */

@@ -17,7 +17,7 @@ not authentic
 Never use a nonce twice under one key: nothing detects it.
 
 The ciphers are a C library with a proved core. This package is tested, and not proved. Several threads may use an
-object, but a `RandomAccessFile` only if it was opened so. The GIL is released for work on 4 KiB or more.
+object, a `RandomAccessFile` only with `check_same_thread=False`. The GIL is released for work on 4 KiB or more.
 """
 
 from ._ciphers import (

@@ -46,7 +46,7 @@ class RandomAccessFile(variants.Secret, _native.RandomAccessFile):
     commit that was interrupted, or discards all of it. `create` makes an empty one.
 
     Changes stay in memory until a commit: `commit`, the end of the outermost `batch`, `close`, the end of a `with` block,
-    or outside a batch a write or a growing `truncate` after which more than 16 MiB of pages are changed. **After a crash
+    or outside a batch a write or a growing `truncate` once more than 16 MiB of pages are changed. **After a crash
     all changes of a commit are there, or none.** A commit first writes them to the journal, the file `PATH.journal`, and
     removes it at the end. `PATH.journal` and `PATH.jrncopy` belong to the file: opening may remove them.
 

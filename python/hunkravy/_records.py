@@ -68,7 +68,7 @@ class RecordSealer(variants.Secret):
 
     `key` has 32 bytes. `prefix` has 24 bytes, and is used for no other stream under the key: nothing detects that. The
     opener needs the key, the prefix, the context and the header. End each stream with `seal_last`: without it the
-    stream is truncated. After a `MemoryError`, or an exception of a signal handler, a record may be lost: begin another
+    stream is truncated. After a `MemoryError`, or an exception from a signal handler, a record may be lost: begin another
     stream. After a fork only one of the two processes may go on with it: both have its nonces.
 
     >>> from hunkravy import RecordOpener, RecordSealer
@@ -139,7 +139,7 @@ class RecordOpener(variants.Secret, turns.Turns):
     ) -> Self:
         """Begins at record `number`, counted from 0. The messages before it have `before` bytes in total.
 
-        A wrong position raises `RecordError` when the record is opened, or `ValueError` at once if no stream has it. The
+        A wrong position raises `RecordError` when the record is opened, or `ValueError` immediately if no stream has it. The
         records before it are not verified.
         """
         number, before = operator.index(number), operator.index(before)

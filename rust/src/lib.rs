@@ -48,7 +48,7 @@ pub use mac::Mac;
 pub use variant::{Tag, Variant, variants};
 pub use variant::{aegis128l, aegis128x2, aegis128x4, aegis256, aegis256x2, aegis256x4};
 
-/// Fills a key, a nonce or a prefix with random bytes of the system, by `getrandom`.
+/// Fills a key, a nonce or a prefix with random bytes from `getrandom`.
 ///
 /// Early after a boot it waits until the system has seeded its source.
 ///

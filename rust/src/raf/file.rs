@@ -67,7 +67,7 @@ impl FileIo {
     ///
     /// # Errors
     ///
-    /// As [`create`](Self::create).
+    /// Those of [`create`](Self::create).
     pub fn open(path: impl AsRef<Path>) -> Result<Self> {
         Self::with(&mut File::options(), path.as_ref())
     }
