@@ -258,34 +258,47 @@ def tried(folder, edits):
     return process.returncode == 0 and not shows_nothing, edits
 
 
+# A goal that is left, or a stored answer to one that is wrong.
+GOAL = re.compile(r"^(?:note: `[^`]+` of (?:\./)?proofs/\S+ must prove: |\./proofs/\S+ error: `).*", re.M)
 # What the prover says where a proof only misses a name.
 MISSES_A_NAME = re.compile(r"is not in scope|has no field|has no `|was not admitted")
 
 
-def reason_alone(edit):
-    """Returns why the prover refuses the function that a mutant names, with what it calls, or None if it does not."""
+def checked_alone(edit, replacements):
+    """Checks the function that a mutant names, with what it calls. Returns the status, and what the prover prints."""
     with tempfile.TemporaryDirectory() as folder:
         for part in filter(pathlib.Path.is_dir, (edit.crate / name for name in ("src", "specs", "proofs"))):
             shutil.copytree(part, f"{folder}/{part.name}")
-        for path, old, new in edit.replacements:
+        for path, old, new in replacements:
             file = pathlib.Path(folder, path)
             file.write_text(file.read_text("utf-8").replace(old, new), "utf-8")
         command = [f"{proved.KIT}/bin/rattle", "check", *proved.words(edit.crate.name, "src/lib.rt"), "--only", *edit.said["alone:"]]
         found = subprocess.run(command, cwd=folder, stdin=subprocess.DEVNULL, stdout=subprocess.PIPE, stderr=subprocess.STDOUT, text=True)
-    reasons = re.findall(r"^(?:\./proofs/\S+ error: |note: `).*", found.stdout, re.M)
-    was_checked = found.returncode == 1 and re.search(r"^only=", found.stdout, re.M)
-    return next((reason for reason in reasons if was_checked and not MISSES_A_NAME.search(reason)), None)
+    return found.returncode, found.stdout
+
+
+def is_refused_alone(edit):
+    """Returns whether the prover refuses a mutant on its function alone, and prints why, or what it says instead."""
+    status, said = checked_alone(edit, edit.replacements)
+    reasons = [goal for goal in GOAL.findall(said) if not MISSES_A_NAME.search(goal)]
+    is_refused = status == 1 and bool(reasons) and re.search(r"^only=", said, re.M) is not None
+    text = f"refused: {reasons[0][:160]}" if is_refused else f"NOT REFUSED, with status {status}:\n{said[-2000:]}"
+    print(f"{edit.crate.name}: {edit.name}: {text}", flush=True)
+    return is_refused
 
 
 def try_alone():
-    """Returns whether the prover fails to refuse a mutant of the gate on its function alone."""
+    """Returns whether the prover fails to refuse a mutant of the gate on its function alone, or to prove the first of these
+    functions as it stands. Without the libraries of `rt ci` it tries the mutants as all others."""
+    edits = [edit for edit in listed("mutants.txt") if edit.said["alone:"]]
+    print(f"Ran {len(edits)} tests of one function")
+    if not proved.PROVED.is_file():
+        return try_these(edits, [])
     proved.check()
-    missed = False
-    for edit in [edit for edit in listed("mutants.txt") if edit.said["alone:"]]:
-        reason = reason_alone(edit)
-        missed = missed or reason is None
-        print(f"{edit.crate.name}: {edit.name}: {f'refused: {reason[:160]}' if reason else 'NOT REFUSED'}", flush=True)
-    return missed
+    status, said = checked_alone(edits[0], [])
+    if status != 0:
+        sys.exit(f"{edits[0].crate.name}: its function is not proved as it stands:\n{said[-2000:]}")
+    return not all([is_refused_alone(edit) for edit in edits])
 
 
 def try_these(mutants, controls):

@@ -433,8 +433,7 @@ static int recover(hunkravy_file *file)
     journal = size > SIZE_MAX / 2 ? NULL : malloc((size_t)size + 1);
     code = journal == NULL ? ENOMEM : replay(file, journal, size, block, length);
     free(journal);
-    /* A part that became shorter while it was read was replaced. */
-    TRY(code == HUNKRAVY_DAMAGED_PAGE ? HUNKRAVY_WRONG_JOURNAL : code);
+    TRY(code);
     TRY(storage->size(storage->context, HUNKRAVY_PART_JOURNAL, &size));
     if (size != 0) {
         /* What has its name by now was not read. */
@@ -458,6 +457,7 @@ static int open_storage(hunkravy_file *file)
 {
     const struct hunkravy_storage *storage = &file->storage;
     uint64_t size, journal = 1;
+    int code;
     TRY(storage->size(storage->context, HUNKRAVY_PART_FILE, &size));
     if (size == 0) {
         TRY(storage->size(storage->context, HUNKRAVY_PART_JOURNAL, &journal));
@@ -467,7 +467,9 @@ static int open_storage(hunkravy_file *file)
         return HUNKRAVY_NO_FILE;
     }
     TRY(CALL(file, lock, (storage->context)));
-    TRY(recover(file));
+    code = recover(file);
+    /* A part that became shorter while it was read was replaced. */
+    TRY(code == HUNKRAVY_DAMAGED_PAGE ? HUNKRAVY_WRONG_JOURNAL : code);
     return set_layout(file);
 }
 
@@ -532,7 +534,7 @@ static int begin_in(
     }
     TRY(hunkravy_file_this_process(&file->owner));
     if (path != NULL) {
-        TRY(hunkravy_file_posix(&file->storage, path, page_size != NULL));
+        TRY(hunkravy_file_posix(&file->storage, path, page_size != NULL, &file->owner));
     }
     return page_size == NULL ? open_storage(file) : create_storage(file);
 }

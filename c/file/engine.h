@@ -86,7 +86,7 @@ void hunkravy_file_drop_pages(hunkravy_file *file, uint64_t since, int is_secret
 int hunkravy_file_this_process(struct process *process);
 int hunkravy_file_seems_this(const struct process *process);
 int hunkravy_file_is_this(const struct process *process);
-int hunkravy_file_posix(struct hunkravy_storage *storage, const char *path, int is_new);
+int hunkravy_file_posix(struct hunkravy_storage *storage, const char *path, int is_new, const struct process *owner);
 
 #pragma GCC visibility pop
 

@@ -605,19 +605,17 @@ static int open_with_paths(struct posix **posix, const char *path, int is_new)
     return code;
 }
 
-/* Opens a file at a path, or makes one. */
-int hunkravy_file_posix(struct hunkravy_storage *storage, const char *path, int is_new)
+/* Opens a file at a path for this process, or makes one. */
+int hunkravy_file_posix(struct hunkravy_storage *storage, const char *path, int is_new, const struct process *owner)
 {
-    struct process owner = {0};
     struct posix *posix = NULL;
     char *whole = absolute(path);
-    int code = whole == NULL ? errno : hunkravy_file_this_process(&owner);
-    code = code != 0 ? code : open_with_paths(&posix, whole, is_new);
+    int code = whole == NULL ? errno : open_with_paths(&posix, whole, is_new);
     free(whole);
     TRY(code);
     posix->journal = -1;
     posix->stage = is_new ? NEW : COMPLETE;
-    posix->owner = owner;
+    posix->owner = *owner;
     *storage = (struct hunkravy_storage){
         .context = posix,
         .read = system_read,

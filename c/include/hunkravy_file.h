@@ -76,8 +76,9 @@ HUNKRAVY_MUST_USE int hunkravy_file_create(hunkravy_file **file, const char *pat
 
 /*
  * Opens and locks the file at a path, and completes a commit that was interrupted, or discards all of it. After an error
- * `*file` is null. After any of the codes above nothing has changed. Exception: before HUNKRAVY_NO_FILE, a journal that was
- * made with the key and has no header may have been applied. After any system error except EINVAL, open the file again.
+ * `*file` is null. After any of the codes above nothing has changed. Exceptions: before HUNKRAVY_NO_FILE, a journal that was
+ * made with the key and has no header may have been applied; before HUNKRAVY_WRONG_JOURNAL, the commit may have been
+ * completed, if a program has put another journal there since. After any system error except EINVAL, open the file again.
  */
 HUNKRAVY_MUST_USE int hunkravy_file_open(hunkravy_file **file, const char *path, uint32_t variant, const uint8_t *k,
     size_t klen) HUNKRAVY_NONNULL(1, 2);

@@ -218,14 +218,10 @@ static void open_at(File *self, PyObject *path, uint32_t variant, const Py_buffe
     int code = page_size != NULL ? hunkravy_file_create(&file, name, variant, key->buf, (size_t)key->len, *page_size)
                                  : hunkravy_file_open(&file, name, variant, key->buf, (size_t)key->len);
     PyEval_RestoreThread(released);
-    if (code != HUNKRAVY_OK) {
-        (void)result_of(code, 0, path, NULL);
-    } else if (self->file != NULL) {
-        /* Another thread has called `__init__` of this object too. */
-        (void)!hunkravy_file_close(file);
-        PyErr_SetString(PyExc_RuntimeError, "the file is open already");
-    } else {
+    if (code == HUNKRAVY_OK) {
         self->file = file;
+    } else {
+        (void)result_of(code, 0, path, NULL);
     }
 }
 

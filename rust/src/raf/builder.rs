@@ -114,7 +114,8 @@ impl<A: Algorithm, R: RafRng, J: JournalChoice> RafBuilder<A, R, J> {
     /// These errors change nothing, but may remove an empty journal:
     /// - [`Error::Locked`] and [`Error::Moved`];
     /// - [`Error::Header`]: there is no header of this algorithm and key;
-    /// - [`Error::Journal`]: the journal belongs to another file or to another state of this one, or is not a journal.
+    /// - [`Error::Journal`]: the journal belongs to another file or to another state of this one, or is not a journal. If a
+    ///   program has put it there during this call, the commit may have been completed.
     ///
     /// After [`Error::Io`] nothing is lost: open the file again.
     pub fn open<I: RafIo>(self, io: I, key: &A::Key) -> Result<Raf<A, I, R, J::Journal>> {

@@ -270,7 +270,7 @@ impl<A: Algorithm, I: RafIo, R: RafRng, J: RafIo> Engine<A, I, R, J> {
         // Below, the standard library allocates copies of long paths.
         check_memory()?;
         let new = self.layout.page_place(self.layout.page_count(self.stored));
-        let end = self.layout.page_place(numbers.last().map_or(0, |last| last + 1));
+        let end = numbers.last().map_or(0, |last| self.layout.page_place(*last) + self.layout.page_bytes() as u64);
         // Not before: sealing may take long, and the file may be moved meanwhile.
         prepare(&mut self.io, &mut self.journal, new..end)?;
         let mut work = Work {
@@ -417,7 +417,8 @@ impl<A: Algorithm, I: RafIo, R: RafRng, J: RafIo> Engine<A, I, R, J> {
         mac.update(&self.stored.to_le_bytes());
         for number in 0..self.layout.page_count(self.stored) {
             let mut tag = [0; TAG_BYTES];
-            self.io.read_at(&mut tag, self.layout.page_place(number + 1) - TAG_BYTES as u64)?;
+            let in_page = self.layout.page_bytes() - TAG_BYTES;
+            self.io.read_at(&mut tag, self.layout.page_place(number) + in_page as u64)?;
             mac.update(&tag);
         }
         Ok(mac)

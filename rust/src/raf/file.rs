@@ -1,7 +1,7 @@
 //! A file of the system, and its journal beside it.
 
 use super::io::{JournalChoice, NoJournal, RafIo};
-use super::system::{Process, forget, lock, take_room, unlock};
+use super::system::{O_NOFOLLOW, O_NONBLOCK, Process, forget, lock, take_room, unlock};
 use super::{Error, Result};
 use crate::exports::hunkravy_hold_descriptors;
 use crate::memory::check_memory;
@@ -282,7 +282,7 @@ fn open(options: &mut OpenOptions, path: &Path) -> io::Result<File> {
 
 /// Opens the file that was found at a path.
 fn open_same(path: &Path, found: &Metadata) -> io::Result<File> {
-    let file = open(&mut File::options(), path)?;
+    let file = open(File::options().custom_flags(O_NOFOLLOW | O_NONBLOCK), path)?;
     if is_same(&file.metadata()?, found) { Ok(file) } else { Err(no_journal()) }
 }
 
@@ -357,8 +357,10 @@ fn is_as_safe(journal: &Metadata, of: &Metadata) -> bool {
 /// Creates a journal, and follows no link. It gets the owner, the group and the permissions of the file, as far as the system
 /// allows, so that each user who may write the file may complete its commit.
 fn new_journal(path: &Path) -> io::Result<File> {
+    // What may fail comes before: an error leaves no new file.
+    let of = found_at(file_of(path))?;
     let file = open(File::options().create_new(true).mode(OWNER), path)?;
-    let Some(of) = found_at(file_of(path))? else {
+    let Some(of) = of else {
         return Ok(file);
     };
     if fchown(&file, Some(of.uid()), Some(of.gid())).is_err() {

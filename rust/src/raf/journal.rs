@@ -162,7 +162,7 @@ impl Neighbours {
 }
 
 /// Returns the part of a journal that has writes which are to be made again, or no bytes. After them the journal is to be emptied.
-/// `file` is what its file begins with: at least 512 bytes, or all.
+/// `file` is the header block of its file, or empty if there are fewer bytes.
 ///
 /// [`Refusal::WRONG_JOURNAL`]: the journal is that of another file, or of another state of this one. Any other error: the file has no
 /// header of this algorithm and key, and the journal is not whole.

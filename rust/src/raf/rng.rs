@@ -5,8 +5,8 @@ use std::io::{self, ErrorKind};
 
 /// A source of random bytes, for nonces and ids.
 pub trait RafRng {
-    /// Fills `buf` with random bytes. **Never return the same bytes twice** under one key. The reserved nonce, whose bytes are
-    /// all 255, is rejected with an [`Error::Io`].
+    /// Fills `buf` with random bytes. **Never return the same bytes twice** under one key. As a nonce of a page or a header,
+    /// bytes that are all 255 are reserved, and rejected with an [`Error::Io`].
     ///
     /// # Errors
     ///

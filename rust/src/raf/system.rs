@@ -14,6 +14,11 @@ const LOCK_UN: c_int = 8;
 
 const POSIX_FADV_DONTNEED: c_int = 4;
 
+/// No link is followed.
+pub const O_NOFOLLOW: c_int = if cfg!(target_arch = "aarch64") { 0o100_000 } else { 0o400_000 };
+/// Opening does not wait.
+pub const O_NONBLOCK: c_int = 0o4_000;
+
 /// The file system cannot do this, in Linux.
 const EOPNOTSUPP: i32 = 95;
 
