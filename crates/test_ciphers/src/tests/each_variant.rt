@@ -12,7 +12,7 @@ ghost use Rattle.std.specs.Prelude.{◌≤◌, length};
 ghost use Rattle.aegis_base.specs.Lane.{IsTagLength};
 
 use crate::tests::assert_bytes;
-use aegis::{Cipher, Decryptor, Encryptor, Error, Mac, chunks_len};
+use aegis::{Decryptor, Encryptor, Error, chunks_len};
 use aegis_base::LaneState;
 use aegis_variants::{AnyCipher, VARIANTS, with_cipher, with_mac};
 use std::process::Abort;
@@ -66,16 +66,6 @@ fn opened<R: Abort, const TAG_BYTES: usize>(
 }
 
 // Decrypts chunks into a destination by one call. Returns the length of the message.
-fn length_opened<S: LaneState, U, const KEY_BYTES: usize, const TAG_BYTES: usize>(
-    cipher: &Cipher<S, U, KEY_BYTES, TAG_BYTES>,
-    chunks: &[&[u8]],
-    tag: &[u8; TAG_BYTES],
-    destination: &mut [u8],
-) -> Result<usize, Error> {
-    Ok(cipher.open_chunks(&ASSOCIATED_DATA, chunks, tag, destination)?.len())
-}
-
-// As `length_opened`, for any variant.
 fn opened_by_one_call<const TAG_BYTES: usize>(
     cipher: &AnyCipher,
     chunks: &[&[u8]],
@@ -84,7 +74,10 @@ fn opened_by_one_call<const TAG_BYTES: usize>(
 ) -> Result<usize, Error>
     requires { IsTagLength TAG_BYTES }
 {
-    with_cipher!(cipher, TAG_BYTES, cipher => length_opened(&cipher, chunks, tag, destination))
+    let opened = with_cipher!(cipher, TAG_BYTES, cipher => {
+        cipher.open_chunks(&ASSOCIATED_DATA, chunks, tag, destination)
+    })?;
+    Ok(opened.len())
 }
 
 // Asserts that a destination begins with the first `count` bytes of `start`, and that no byte after them was written.
@@ -131,19 +124,14 @@ fn check_wrong_tag<R: Abort + AllocGlobal, const TAG_BYTES: usize>(
     assert_start(rt, &destination, &[0; 114], 114);
 }
 
-// Verifies the MAC of the message.
-fn verified_by<S: LaneState, const KEY_BYTES: usize, const TAG_BYTES: usize>(
-    mut mac: Mac<S, KEY_BYTES, TAG_BYTES>,
-    tag: &[u8; TAG_BYTES],
-) -> Result<(), Error> {
-    mac.update(&MESSAGE);
-    mac.verify(tag)
-}
-
 fn verified<const TAG_BYTES: usize>(cipher: &AnyCipher, tag: &[u8; TAG_BYTES]) -> Result<(), Error>
     requires { IsTagLength TAG_BYTES }
 {
-    with_mac!(cipher, TAG_BYTES, mac => verified_by(mac, tag))
+    with_mac!(cipher, TAG_BYTES, mac => {
+        let mut mac = mac;
+        mac.update(&MESSAGE);
+        mac.verify(tag)
+    })
 }
 
 fn check_wrong_tags<R: Abort + AllocGlobal, const TAG_BYTES: usize>(rt: &R, cipher: &AnyCipher)
@@ -440,12 +428,6 @@ fn xor_in_place<const TAG_BYTES: usize>(cipher: &AnyCipher, buffer: &mut [u8])
     with_cipher!(cipher, TAG_BYTES, cipher => cipher.stream_xor_in_place(buffer))
 }
 
-fn keystream<const TAG_BYTES: usize>(cipher: &AnyCipher, buffer: &mut [u8])
-    requires { IsTagLength TAG_BYTES }
-{
-    with_cipher!(cipher, TAG_BYTES, cipher => cipher.stream(buffer))
-}
-
 fn check_keystream<R: Abort + AllocGlobal, const TAG_BYTES: usize>(
     rt: &R,
     cipher: &AnyCipher,
@@ -453,7 +435,7 @@ fn check_keystream<R: Abort + AllocGlobal, const TAG_BYTES: usize>(
     requires { IsTagLength TAG_BYTES }
 {
     let mut stream = [0xa5; 515];
-    keystream::<TAG_BYTES>(cipher, &mut stream);
+    with_cipher!(cipher, TAG_BYTES, cipher => cipher.stream(&mut stream));
     let mut sealed = [0; 515];
     let _tag: [u8; TAG_BYTES] = cipher.encrypt_in_place(&mut sealed, &[]);
     assert_bytes(rt, &stream, &sealed, &TAG_BYTES);
