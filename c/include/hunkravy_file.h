@@ -84,7 +84,7 @@ HUNKRAVY_MUST_USE int hunkravy_file_open(hunkravy_file **file, const char *path,
     size_t klen) HUNKRAVY_NONNULL(1, 2);
 
 /*
- * Commits the changes, and frees the file, also after an error. A process that did not open the file only frees it: its
+ * Commits the changes, and frees the file, even after an error. A process that did not open the file only frees it: its
  * storage is closed, and must not unlock it for the other one. For a null pointer it only returns HUNKRAVY_OK.
  *
  * Nothing is committed, and the result is the reason's code, if a batch is open or if the file is broken. The same holds

@@ -119,7 +119,7 @@ class SealedWriter(Sealed):
     byte, `BlockingIOError` is raised. In a forked process the writer raises `OSError`, and writes nothing.
 
     Bytes are written in pieces of 65,536. `close` writes the last piece, and `flush` does not. In a `with` block the
-    end of the block completes the file, also if an `io.TextIOWrapper` inside it has closed the writer.
+    end of the block completes the file, even if an `io.TextIOWrapper` inside it has closed the writer.
     """
 
     _can_write = True

@@ -1,4 +1,4 @@
-"""Random-access files: encrypted contents that are read and written at any place, and survive crashes."""
+"""Random-access files: encrypted contents that are read and written at any position, and survive crashes."""
 
 from __future__ import annotations
 

@@ -628,7 +628,7 @@ static PyMethodDef file_methods[] = {
     {"write_at", file_write_at, METH_VARARGS,
         "write_at($self, offset, data, /)\n--\n\n"
         "Writes the data over the contents from `offset` on, and returns their length. Zeros fill a gap in\n"
-        "front, also if there are no data. After an exception nothing has changed, unless it is one of a\n"
+        "front, even if there are no data. After an exception nothing has changed, unless it is one of a\n"
         "commit."},
     {"truncate", file_truncate, METH_O,
         "truncate($self, size, /)\n--\n\n"
@@ -645,7 +645,7 @@ static PyMethodDef file_methods[] = {
         "Discards all changes since the last commit, and ends each batch."},
     {"close", file_close, METH_NOARGS,
         "close($self, /)\n--\n\n"
-        "Commits the changes, and closes the file, also after an exception. Commits nothing in a process that\n"
+        "Commits the changes, and closes the file, even after an exception. Commits nothing in a process that\n"
         "did not open the file; in a batch, with a `RuntimeError`; and after a change or a commit that has\n"
         "failed, whose exception it raises once more. In a thread that may not use the file it raises\n"
         "`RuntimeError`, and closes nothing."},

@@ -270,7 +270,7 @@ class Writing(unittest.TestCase):
             self.assert_incomplete(file)
 
     def test_a_wrapper_in_a_block(self) -> None:
-        """Wrappers close what they wrap, also after an exception."""
+        """Wrappers close what they wrap, even after an exception."""
         file = io.BytesIO()
         with SealedWriter(file, KEY) as writer, io.TextIOWrapper(writer) as text:
             text.write("contents")
@@ -288,7 +288,7 @@ class Writing(unittest.TestCase):
         self.assert_incomplete(file)
 
     def test_a_forked_process(self) -> None:
-        """There a writer writes nothing, also if a wrapper is closed that still has contents."""
+        """There a writer writes nothing, even if a wrapper is closed that still has contents."""
 
         def use() -> None:
             self.assertRaises(OSError, writer.write, b"x")

@@ -216,7 +216,7 @@ class Files(unittest.TestCase):
         self.assertEqual(contents(self.path), b"after")
 
     def test_a_batch_in_one_that_is_dropped(self) -> None:
-        """Its end raises an error, also if as many blocks as batches are open."""
+        """Its end raises an error, even if as many blocks as batches are open."""
         with RandomAccessFile.create(self.path, KEY) as file:
             outer = [file.batch()]
             outer[0].__enter__()
@@ -556,7 +556,7 @@ class Files(unittest.TestCase):
             RandomAccessFile.create(self.folder / str(size), KEY, page_size=size).close()
 
     def test_an_empty_write(self) -> None:
-        """It extends the contents, as `truncate` does. The position of a stream is its own, also after a batch that fails."""
+        """It extends the contents, as `truncate` does. The position of a stream is its own, even after a batch that fails."""
         with RandomAccessFile.create(self.path, KEY) as file:
             file.write_at(3, b"")
             self.assertEqual(file.read_at(0, 9), bytes(3))

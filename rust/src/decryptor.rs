@@ -133,7 +133,7 @@ mod tests {
         assert_eq!(buffer, [0, 0xff]);
     }
 
-    /// A chunk is counted before it is decrypted, so that it is erased also if that panics.
+    /// A chunk is counted before it is decrypted, so that it is erased even if that panics.
     #[cfg(feature = "std")]
     #[test]
     fn a_decryptor_that_panics_erases() {

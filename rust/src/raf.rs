@@ -1,4 +1,4 @@
-//! Encrypted files that are read and written at any place.
+//! Encrypted files that are read and written at any position.
 //!
 //! The contents are split into pages, each of which is encrypted on its own. [`Raf::batch`] makes several changes together: it
 //! commits them, or undoes them if the closure returns an error. Outside a batch changes stay in memory until a commit: [`Raf::commit`],

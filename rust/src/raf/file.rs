@@ -178,7 +178,7 @@ impl RafIo for FileIo {
     }
 }
 
-/// Removes a file that was not finished. Unlocks the file in the process that has locked it, also if another descriptor of it is
+/// Removes a file that was not finished. Unlocks the file in the process that has locked it, even if another descriptor of it is
 /// open, such as in a process that is being started.
 impl Drop for FileIo {
     fn drop(&mut self) {
@@ -187,7 +187,7 @@ impl Drop for FileIo {
         }
         let is_own = match self.stage {
             Stage::Complete => false,
-            // Another program may have written to it, also if it is locked.
+            // Another program may have written to it, even if it is locked.
             Stage::New => self.file.metadata().is_ok_and(|found| is_empty(&found)),
             Stage::Begun => true,
         };

@@ -4,7 +4,7 @@ use super::Result;
 use std::io;
 use std::path::PathBuf;
 
-/// A storage: bytes that are read and written at any place.
+/// A storage: bytes that are read and written at any position.
 ///
 /// [`Raf`](super::Raf) calls it from one thread at a time. Commits rely on [`sync`](RafIo::sync), and on this: before `sync` has
 /// returned, a crash may leave any bytes where something was written, and the old size or the new one. No other byte changes.
@@ -64,7 +64,7 @@ pub trait RafIo {
         Ok(())
     }
 
-    /// Makes reads return what would survive a loss of power now, also after a [`sync`](RafIo::sync) that failed. It is called when
+    /// Makes reads return what would survive a loss of power now, even after a [`sync`](RafIo::sync) that failed. It is called when
     /// a file with a journal is opened.
     ///
     /// The default does nothing. It is for storages without a memory in front of them.

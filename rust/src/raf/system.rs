@@ -70,7 +70,7 @@ pub fn take_room(file: &File, from: u64, end: u64) -> io::Result<bool> {
     }
 }
 
-/// Syncs a file, and has the system forget what it keeps of it in memory. So reads return what the disk has, also if an earlier
+/// Syncs a file, and has the system forget what it keeps of it in memory. So reads return what the disk has, even if an earlier
 /// sync has failed: Linux keeps bytes then that the disk does not have, and ext4 may not keep what is written over them.
 pub fn forget(file: &File) -> io::Result<()> {
     file.sync_all()?;
