@@ -28,8 +28,9 @@ LINK_FLAGS = ["-s", "-Wl,--exclude-libs,ALL,--gc-sections,-z,relro,-z,now"]
 
 def library(machine: str) -> str:
     """Returns the path of the static library for a processor. It is named relative to this folder, as an sdist has it."""
-    folders = (os.environ.get("HUNKRAVY_LIB_DIR"), HERE / "lib" / machine, HERE.parent / "out" / "both")
-    return next((str(path) for folder in folders if folder and (path := pathlib.Path(folder, "libhunkravy.a")).exists()), "")
+    named = os.environ.get("HUNKRAVY_LIB_DIR")
+    folders = [named] if named else [HERE / "lib" / machine, HERE.parent / "out" / "both"]
+    return next((str(path) for folder in folders if (path := pathlib.Path(folder, "libhunkravy.a")).exists()), "")
 
 
 def native_module() -> Extension:

@@ -174,8 +174,11 @@ static int check_name(const struct posix *posix)
 /* Syncs the names in the folder. If the user may not read the folder, they cannot be. */
 static int sync_folder(const struct posix *posix)
 {
-    int folder = open(posix->folder_path, O_RDONLY | O_DIRECTORY | O_CLOEXEC);
-    int code = folder < 0 ? errno : sync_fd(folder);
+    int folder, code;
+    do {
+        folder = open(posix->folder_path, O_RDONLY | O_DIRECTORY | O_CLOEXEC);
+    } while (folder < 0 && errno == EINTR);
+    code = folder < 0 ? errno : sync_fd(folder);
     if (folder >= 0) {
         close(folder);
     }
@@ -365,6 +368,17 @@ static int system_reserve(void *context, uint64_t from, uint64_t end)
     return posix->journal < 0 ? make_beside(posix, posix->journal_path, &posix->journal) : 0;
 }
 
+/* Checks that the file and its journal still have their names. The journal is open. */
+static int check_names(const struct posix *posix)
+{
+    struct stat own, found;
+    int is_there;
+    TRY(check_name(posix));
+    TRY(look(posix->journal, &own));
+    TRY(find(posix->journal_path, &found, &is_there));
+    return is_there && is_same(&own, &found) ? 0 : HUNKRAVY_WRONG_JOURNAL;
+}
+
 static int system_replace(void *context, const uint8_t *bytes, size_t length)
 {
     struct posix *posix = context;
@@ -374,6 +388,10 @@ static int system_replace(void *context, const uint8_t *bytes, size_t length)
     code = put(made, bytes, length, 0);
     if (code == 0) {
         code = sync_fd(made);
+    }
+    if (code == 0) {
+        /* Writing and syncing took a while: another program may have put its own there. */
+        code = check_names(posix);
     }
     if (code == 0) {
         code = rename(posix->copy_path, posix->journal_path) == 0 ? 0 : errno;

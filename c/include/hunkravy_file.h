@@ -78,14 +78,16 @@ HUNKRAVY_MUST_USE int hunkravy_file_create(hunkravy_file **file, const char *pat
  * Opens and locks the file at a path, and completes a commit that was interrupted, or discards all of it. After an error
  * `*file` is null. After any of the codes above nothing has changed. Exceptions: before HUNKRAVY_NO_FILE, a journal that was
  * made with the key and has no header may have been applied; before HUNKRAVY_WRONG_JOURNAL, the commit may have been
- * completed, if a program has put another journal there since. After any system error except EINVAL, open the file again.
+ * completed, if a program has put another journal there since. After any system error except EINVAL, open the file again:
+ * the commit may have been completed, also with ENOMEM. A descriptor 0, 1 or 2 that is closed is taken for good.
  */
 HUNKRAVY_MUST_USE int hunkravy_file_open(hunkravy_file **file, const char *path, uint32_t variant, const uint8_t *k,
     size_t klen) HUNKRAVY_NONNULL(1, 2);
 
 /*
- * Commits the changes, and frees the file, even after an error. A process that did not open the file only frees it: its
- * storage is closed, and must not unlock it for the other one. For a null pointer it only returns HUNKRAVY_OK.
+ * Commits the changes, overwrites the key and the pages in memory, and frees the file, even after an error. A process that
+ * did not open the file only frees it: its storage is closed, and must not unlock it for the other one. For a null pointer
+ * it only returns HUNKRAVY_OK.
  *
  * Nothing is committed, and the result is the reason's code, if a batch is open or if the file is broken. The same holds
  * if a change or a commit has failed and none has been committed since: the pending changes may be a part of what was

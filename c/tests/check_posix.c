@@ -112,6 +112,19 @@ static int write_journal_later(void)
     return 0;
 }
 
+static int waits;
+
+/* Another program puts its own journal there, after so many calls. */
+static int replace_journal(void)
+{
+    if (waits-- > 0) {
+        meanwhile = replace_journal;
+        return 0;
+    }
+    HOLDS(unlink(journal_path()) == 0);
+    return write_journal();
+}
+
 static int replace_file(void)
 {
     HOLDS(unlink(path) == 0);
@@ -167,6 +180,23 @@ static void check_openings(void)
     HOLDS(hunkravy_file_create(&file, path, HUNKRAVY_AEGIS256, key, sizeof key, 0) == 0);
     HOLDS(hunkravy_file_close(file) == 0);
     meanwhile = write_journal_later;
+    HOLDS(hunkravy_file_open(&file, path, HUNKRAVY_AEGIS256, key, sizeof key) == HUNKRAVY_WRONG_JOURNAL);
+    HOLDS(meanwhile == NULL && has_precious(journal_path()));
+    HOLDS(unlink(journal_path()) == 0 && unlink(path) == 0);
+    calls[0] = '\0';
+}
+
+/* Recovery replaces no other journal than it has read: here one that appears while its copy is synced. */
+static void check_exchanged(void)
+{
+    hunkravy_file *file;
+    HOLDS(hunkravy_file_create(&file, path, HUNKRAVY_AEGIS256, key, sizeof key, 0) == 0);
+    HOLDS(hunkravy_file_write(file, 0, "after!", 6) == 0);
+    writes_left = 2;
+    HOLDS(hunkravy_file_commit(file) == EIO && hunkravy_file_close(file) == HUNKRAVY_FILE_BROKEN);
+    writes_left = ALL;
+    waits = 4;
+    meanwhile = replace_journal;
     HOLDS(hunkravy_file_open(&file, path, HUNKRAVY_AEGIS256, key, sizeof key) == HUNKRAVY_WRONG_JOURNAL);
     HOLDS(meanwhile == NULL && has_precious(journal_path()));
     HOLDS(unlink(journal_path()) == 0 && unlink(path) == 0);
@@ -319,6 +349,7 @@ int main(void)
     snprintf(path, sizeof path, "%s/file", folder);
     check_creations();
     check_openings();
+    check_exchanged();
     check_order();
     check_signals();
     check_commits_that_fail();

@@ -86,6 +86,7 @@ class RandomAccessStream(variants.Secret, RawFile):  # type: ignore[misc]
     def __init__(self, file: RandomAccessFile) -> None:
         self._file = file
         self._position = 0
+        self._commits = True
 
     def _open_file(self) -> RandomAccessFile:
         if self.closed:
@@ -131,6 +132,11 @@ class RandomAccessStream(variants.Secret, RawFile):  # type: ignore[misc]
         """Truncates or extends the contents to `size` bytes, or to the position."""
         return self._open_file().truncate(self._position if size is None else size)
 
+    def __exit__(self, kind: object, error: object, traceback: object) -> None:
+        """Closes. After an exception it commits nothing: the changes stay in memory."""
+        self._commits = kind is None
+        self.close()
+
     def close(self) -> None:
         """Commits, unless in a batch or in a process that did not open the file."""
         try:
@@ -145,7 +151,7 @@ class RandomAccessStream(variants.Secret, RawFile):  # type: ignore[misc]
         if self.closed:
             return
         try:
-            if not self._file._is_in_batch:
+            if self._commits and not self._file._is_in_batch:
                 self._file.commit()
         except ValueError:
             if not self._file.closed:

@@ -209,20 +209,26 @@ static uint32_t variant_of(PyObject *cipher)
     return (uint32_t)number;
 }
 
-/* Opens the file at a path in an object whose lock this thread has, or creates one if there is a page size. */
-static void open_at(File *self, PyObject *path, uint32_t variant, const Py_buffer *key, const uint32_t *page_size)
+/*
+ * Opens the file at a path in an object whose lock this thread has, or creates one if there is a page size, and releases the
+ * lock: whatever waits for the interpreter's lock, or raises an error, could run code that waits for this one.
+ */
+static int open_at(
+    File *self, PyObject *path, uint32_t variant, const Py_buffer *key, const uint32_t *page_size, bool checks)
 {
     hunkravy_file *file;
     const char *name = PyBytes_AsString(path);
+    unsigned long thread = checks ? PyThread_get_thread_ident() : 0;
     PyThreadState *released = PyEval_SaveThread();
     int code = page_size != NULL ? hunkravy_file_create(&file, name, variant, key->buf, (size_t)key->len, *page_size)
                                  : hunkravy_file_open(&file, name, variant, key->buf, (size_t)key->len);
-    PyEval_RestoreThread(released);
     if (code == HUNKRAVY_OK) {
-        self->file = file;
-    } else {
-        (void)result_of(code, 0, path, NULL);
+        self->thread = thread;
+        __atomic_store_n(&self->file, file, __ATOMIC_RELEASE);
     }
+    PyThread_release_lock(self->lock);
+    PyEval_RestoreThread(released);
+    return code;
 }
 
 /* Opens a file in an object, or creates one. */
@@ -250,11 +256,8 @@ static int open_in(File *self, PyObject *given, PyObject *named, bool is_new)
     /* No code of the caller runs from here on, such as an attribute's: it could wait for this lock. */
     bool is_free = !PyErr_Occurred() && self->file == NULL && PyThread_acquire_lock(self->lock, NOWAIT_LOCK);
     if (is_free) {
-        open_at(self, path, variant, &key, is_new ? &(uint32_t){(uint32_t)page_size} : NULL);
-        if (!PyErr_Occurred()) {
-            self->thread = checks ? PyThread_get_thread_ident() : 0;
-        }
-        PyThread_release_lock(self->lock);
+        const uint32_t size_of_new = (uint32_t)page_size;
+        (void)result_of(open_at(self, path, variant, &key, is_new ? &size_of_new : NULL, checks), 0, path, NULL);
     } else if (!PyErr_Occurred()) {
         PyErr_SetString(PyExc_RuntimeError, "the file is open already, or a thread was using this object at a fork");
     }
@@ -382,8 +385,8 @@ static PyObject *file_exit(PyObject *object, PyObject *given)
 {
     int failed = has_failed(given);
     PyObject *result = failed < 0 ? NULL : close_file((File *)object, !failed, failed);
-    if (result == NULL && failed > 0) {
-        /* The exception of the block goes on: that the file is broken is not news. */
+    if (result == NULL && failed > 0 && ((File *)object)->file == NULL) {
+        /* The exception of the block goes on: that the file is broken is not news. Another thread has not closed it. */
         PyErr_Clear();
         Py_RETURN_NONE;
     }

@@ -648,6 +648,43 @@ class Files(unittest.TestCase):
             with zipfile.ZipFile(file.open_stream()) as archive:
                 self.assertEqual(archive.namelist(), [])
 
+    def test_a_stream_after_an_exception(self) -> None:
+        """Its block commits nothing, and that of the file discards the changes."""
+        with RandomAccessFile.create(self.path, KEY) as file, file.open_stream() as stream:
+            stream.write(b"kept")
+        for error in KeyError, None:
+            with contextlib.suppress(KeyError), RandomAccessFile(self.path, KEY) as file, file.open_stream() as stream:
+                stream.write(b"lost" if error else b"new ")
+                if error:
+                    raise error
+            self.assertEqual(contents(self.path), b"kept" if error else b"new ")
+
+    def test_a_block_that_ends_in_another_thread(self) -> None:
+        """There it raises an error, and the file stays open."""
+        file = RandomAccessFile.create(self.path, KEY)
+        file.__enter__()
+        with concurrent.futures.ThreadPoolExecutor(1) as other:
+            ended = other.submit(file.__exit__, KeyError, KeyError(), None)
+            self.assertRaises(RuntimeError, ended.result)
+        self.assertFalse(file.closed)
+        file.close()
+
+    def test_an_error_of_opening_that_closes_the_object(self) -> None:
+        """Code that runs while the error is made, such as a signal handler, may use the object."""
+        RandomAccessFile.create(self.path, KEY).close()
+        file = RandomAccessFile.__new__(RandomAccessFile)
+        made = RandomAccessError.__init__
+
+        def closing(error: RandomAccessError, *arguments: Any) -> None:
+            file.close()
+            made(error, *arguments)
+
+        with mock.patch.object(RandomAccessError, "__init__", closing):
+            thread = threading.Thread(target=self.assertCause, args=("header", file.__init__, self.path, bytes(32)), daemon=True)  # type: ignore[misc]
+            thread.start()
+            thread.join(20)
+        self.assertFalse(thread.is_alive())
+
     def test_a_stream_under_a_buffer(self) -> None:
         """The `flush` of the buffer makes changes, and that of the stream commits them."""
         with RandomAccessFile.create(self.path, KEY) as file, io.BufferedRandom(file.open_stream()) as buffer:

@@ -50,6 +50,12 @@ class Backup(Scene):
     def test_failures(self):
         self.tool(2, ["bash", SCRIPT, "key", "store"], "usage: backup.sh KEY STORE PATH..")
         self.tool(2, ["bash", SCRIPT, "key", "store", "docs"], "not an absolute path: docs")
+        os.symlink("small", "link")
+        self.tool(2, ["bash", SCRIPT, "key", "store", f"{os.getcwd()}/link"], "link is a link: give its target")
+        for folder in "/", os.getcwd(), f"{os.getcwd()}/store/":
+            self.tool(2, ["bash", SCRIPT, "key", "store", folder], "contains store")
+        os.environ["TAPE"] = f"{os.getcwd()}/tape"
+        self.addCleanup(os.environ.pop, "TAPE")
         for keep in "some", "-1", "010", "08":
             self.night("2026-04-01", 0, 2, f"KEEP must be a number such as 30, not {keep}", KEEP=keep)
         self.night("2026-04-01", 0, 0, lacks=".")

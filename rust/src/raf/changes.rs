@@ -9,6 +9,7 @@ use alloc::vec::Vec;
 use core::hint::black_box;
 use core::mem;
 use std::collections::HashMap;
+use std::hash::{BuildHasherDefault, DefaultHasher};
 use std::io::{self, ErrorKind};
 
 /// The number of bytes that a page takes beside its contents, at most.
@@ -26,7 +27,7 @@ pub fn copy_of(page: &[u8]) -> io::Result<Page> {
 
 /// Changed pages by their numbers, each with room for its nonce and its tag. A tree would be sorted, but takes its memory without
 /// a way to fail.
-type Layer = HashMap<u64, Page>;
+type Layer = HashMap<u64, Page, BuildHasherDefault<DefaultHasher>>;
 
 /// The changed pages: those outside any batch, and above them those of each open batch, the innermost last. So undoing a batch
 /// takes no memory. Pages past the end of the contents have no meaning: a batch leaves those that it truncates to the outer one.

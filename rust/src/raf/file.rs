@@ -255,6 +255,14 @@ impl JournalFile {
         JournalFile { path, file: None, is_name_synced: false }
     }
 
+    /// Returns an error unless the journal that is open has this path.
+    fn check_name(&self, path: &Path) -> io::Result<()> {
+        match (&self.file, found_at(path)?) {
+            (Some(file), Some(found)) if is_same(&file.metadata()?, &found) => Ok(()),
+            _ => Err(no_journal()),
+        }
+    }
+
     /// Opens the file, or returns `None` if there is none and none is to be made.
     fn open(&mut self, create: bool) -> io::Result<Option<&mut File>> {
         if let (Some(path), None) = (&self.path, &self.file) {
@@ -313,7 +321,10 @@ fn emptied_at(path: &Path) -> io::Result<Option<File>> {
         return Ok(None);
     };
     let Ok(file) = open_same(path, &found) else {
-        fs::remove_file(path)?;
+        // Another file may have its name by now.
+        if empty_at(path)?.is_some() {
+            fs::remove_file(path)?;
+        }
         return sync_folder(path).map(|()| None);
     };
     file.set_len(0)?;
@@ -384,7 +395,7 @@ fn mode_beside(of: u32, is_of_its_group: bool) -> u32 {
 fn no_journal() -> io::Error {
     io::Error::new(
         io::ErrorKind::InvalidData,
-        "the journal is rejected: it is not a regular file, has several names, or is writable by other users",
+        "the journal is rejected: it is not a regular file, has several names, is writable by other users, or was exchanged",
     )
 }
 
@@ -485,7 +496,9 @@ impl RafIo for JournalFile {
         let _ = fs::remove_file(&copy);
         let made = new_journal(&copy)?;
         let synced = made.write_all_at(bytes, 0).and_then(|()| made.sync_all());
-        if let Err(error) = synced.and_then(|()| fs::rename(&copy, path)) {
+        // Writing and syncing took a while: another program may have put its own there.
+        let checked = synced.and_then(|()| self.check_name(path));
+        if let Err(error) = checked.and_then(|()| fs::rename(&copy, path)) {
             // In a sticky folder it would keep out other users who may replace the journal.
             let _ = fs::remove_file(&copy);
             return Err(error);
@@ -631,6 +644,22 @@ pub mod tests {
             }
             assert!(fs::read(path).unwrap() == expected, "{from} {end}");
         }
+    }
+
+    /// A copy takes the name of no other journal than was opened.
+    #[test]
+    fn exchanged_journals() {
+        let Paths(_, at) = &Paths::new("exchanged");
+        let mut journal = JournalFile::at(Some(at.clone()));
+        fs::write(at, [1; 600]).unwrap();
+        journal.forget().unwrap();
+        journal.replace(&[2; 600]).unwrap();
+        assert_eq!(fs::read(at).unwrap(), [2; 600]);
+        fs::remove_file(at).unwrap();
+        fs::write(at, "another").unwrap();
+        assert!(journal.replace(&[3; 600]).is_err());
+        assert_eq!(fs::read(at).unwrap(), b"another");
+        assert!(!at.with_extension("jrncopy").exists());
     }
 
     /// A journal that was emptied is removed, and another file that has its name by then is not.
