@@ -1,7 +1,8 @@
 """The mutants of the crates: those that `rt ci` tries, in must-fail/, the others, which mutants.txt lists, and the controls.
 
-A mutant with a line `alone:` is tried in the gate too, on the function of that path alone. A control has the shape of a mutant and the right meaning, so the prover has to prove it: controls.txt lists them, each with
-the name of the mutant that it stands beside.
+A mutant with a line `alone:` is tried in the gate too, on the function of that path alone. A control has the shape of a
+mutant and the right meaning, so the prover has to prove it: controls.txt lists them, each with the name of the mutant that
+it stands beside.
 
 mutants.py check: each can be applied, since every text that it replaces stands in its file once, has a name of its own in its
 crate, and names the clauses that refuse it. The function that it changes, or one that calls that, has a clause of each name.

@@ -16,7 +16,7 @@ for path in "$@"; do
     [[ $path == /* ]] || { echo "backup.sh: not an absolute path: $path" >&2; exit 2; }
     [ ! -L "${path%/}" ] || { echo "backup.sh: $path is a link: give its target" >&2; exit 2; }
     folder=$(realpath -m "$path")
-    [[ $(realpath -m "$store")/ != "${folder%/}"/* ]] || { echo "backup.sh: $path contains $store" >&2; exit 2; }
+    [[ $(realpath -m -- "$store")/ != "${folder%/}"/* ]] || { echo "backup.sh: $path contains $store" >&2; exit 2; }
 done
 today=$(date +%F)
 part=$store/backup.part

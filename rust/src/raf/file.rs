@@ -314,13 +314,10 @@ fn empty_at(path: &Path) -> io::Result<Option<Metadata>> {
     Ok(found_at(path)?.filter(is_empty))
 }
 
-/// Opens an empty journal and empties it once more: after a sync that failed the disk may have all of its bytes. Removes one that
-/// cannot be opened.
-fn emptied_at(path: &Path) -> io::Result<Option<File>> {
-    let Some(found) = empty_at(path)? else {
-        return Ok(None);
-    };
-    let Ok(file) = open_same(path, &found) else {
+/// Opens the empty journal that was found and empties it once more: after a sync that failed the disk may have all of its bytes.
+/// Removes one that cannot be opened.
+fn emptied(path: &Path, found: &Metadata) -> io::Result<Option<File>> {
+    let Ok(file) = open_same(path, found) else {
         // Another file may have its name by now.
         if empty_at(path)?.is_some() {
             fs::remove_file(path)?;
@@ -526,8 +523,8 @@ impl RafIo for JournalFile {
         let Some(path) = &self.path else {
             return Ok(());
         };
-        if self.file.is_none() {
-            self.file = emptied_at(path)?;
+        if let (None, Some(found)) = (&self.file, empty_at(path)?) {
+            self.file = emptied(path, &found)?;
         }
         let Some(file) = &self.file else {
             return Ok(());
@@ -644,6 +641,24 @@ pub mod tests {
             }
             assert!(fs::read(path).unwrap() == expected, "{from} {end}");
         }
+    }
+
+    /// An empty journal that cannot be opened is removed, and another file that has its name by then is not.
+    #[test]
+    fn journals_that_are_emptied_once_more() {
+        let (Paths(path, at), Paths(other, _)) = (&Paths::new("again"), &Paths::new("other"));
+        fs::write(at, []).unwrap();
+        let found = fs::symlink_metadata(at).unwrap();
+        // While it is open no other file gets its number.
+        let opened = emptied(at, &found).unwrap();
+        assert!(opened.is_some());
+        fs::write(other, "another").unwrap();
+        fs::rename(other, at).unwrap();
+        assert!(emptied(at, &found).unwrap().is_none());
+        assert_eq!(fs::read(at).unwrap(), b"another");
+        fs::write(path, []).unwrap();
+        fs::rename(path, at).unwrap();
+        assert!(emptied(at, &found).unwrap().is_none() && !at.exists());
     }
 
     /// A copy takes the name of no other journal than was opened.
