@@ -74,9 +74,10 @@ gcc-aarch64-linux-gnu qemu-user:
 	@command -v $(PROGRAM) > /dev/null || \
 		{ echo '$(PROGRAM) is not installed: TARGET=$(ARM) needs the package $@' >&2; exit 1; }
 
-# Its manual page.
-$(OUT)/hunkravy.3: c/manual.awk $(OWN_HEADERS:%=c/include/%) VERSION | $(OUT)
-	awk -v version=$(VERSION) -f $< $(OWN_HEADERS:%=c/include/%) > $@
+# Its manual page, with the date of the tool's.
+$(OUT)/hunkravy.3: c/manual.awk $(OWN_HEADERS:%=c/include/%) crates/hunkravy/manual/man VERSION | $(OUT)
+	awk -v version=$(VERSION) -v date="$$(awk '/^\.TH/ { print $$4 }' crates/hunkravy/manual/man)" \
+		-f $< $(OWN_HEADERS:%=c/include/%) > $@
 
 # ---- Its tests
 
@@ -146,7 +147,7 @@ check-header: check-manual
 check-manual: $(OUT)/hunkravy.3
 	diff <($(EXPORTS) | sort) <($(NAMES) $< | sort)
 	if command -v mandoc > /dev/null; then \
-		mandoc -T lint -W error $<; \
+		mandoc -T lint -W warning $<; \
 	else \
 		echo 'left out: the manual page by mandoc, which is not installed'; \
 	fi

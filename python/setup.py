@@ -20,7 +20,7 @@ HERE = pathlib.Path(__file__).resolve().parent
 INCLUDE = next(path for path in (HERE / "include", HERE.parent / "c" / "include") if path.exists())
 FLAGS = "-std=c11 -Wall -Wextra -Wpedantic -fvisibility=hidden -fstack-protector-strong".split()
 FLAGS += ["-U_FORTIFY_SOURCE", "-D_FORTIFY_SOURCE=3"]
-# Indirect branches lead only to the beginning of a function or of a case.
+# Landing pads in this C, for indirect branches.
 BRANCHES = {"x86_64": ["-fcf-protection"], "aarch64": ["-mbranch-protection=standard"]}
 # The library's names are not exported, so no other library's are used in their place.
 LINK_FLAGS = ["-s", "-Wl,--exclude-libs,ALL,--gc-sections,-z,relro,-z,now"]

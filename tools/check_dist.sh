@@ -112,8 +112,8 @@ for unpacked in "$work"/empty/*; do
     (cd "$unpacked" && python3 "$root/tools/check_pages.py" links) || fail 'a page has a dead link'
     # No page names a file for another processor, or the tool where there is none.
     machine=${unpacked#*-"$version"-} machine=${machine%-linux}
-    if [ "$machine" = x86_64 ]; then others='hunkravy-[^ ]*aarch64'; else others='hunkravy-[^ ]*x86_64|bin/hunkravy'; fi
-    if grep -rnE --include='*.md' "$others|^@" "$unpacked"; then fail "a page of $machine names other files"; fi
+    if [ "$machine" = x86_64 ]; then others='hunkravy-[^ ]*aarch64'; else others='hunkravy-[^ ]*x86_64|bin/hunkravy|hunkravy \(1\)'; fi
+    if grep -rnE --include='*.md' --include='*.[13]' "$others|^@" "$unpacked"; then fail "a page of $machine names other files"; fi
 done
 has "$work"/site/hunkravy-*.dist-info/METADATA "^Version: $version\$"
 has <("$folder/bin/hunkravy" --version) "^hunkravy $version\$"

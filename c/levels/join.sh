@@ -18,7 +18,7 @@ out=$1
 work=$(mktemp -d)
 trap 'rm -r "$work"' EXIT
 
-# Compiles a file. Indirect branches lead only where a function or a case begins.
+# Compiles a file, with landing pads for indirect branches.
 case $("${CC:-gcc}" -dumpmachine) in
 x86_64*) branches=-fcf-protection ;;
 *) branches=-mbranch-protection=standard ;;

@@ -18,6 +18,7 @@ for path in "$@"; do
     folder=$(realpath -m "$path")
     [[ $(realpath -m -- "$store")/ != "${folder%/}"/* ]] || { echo "backup.sh: $path contains $store" >&2; exit 2; }
 done
+[ -d "$store" ] || { echo "backup.sh: there is no folder $store" >&2; exit 1; }
 today=$(date +%F)
 part=$store/backup.part
 

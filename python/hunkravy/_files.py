@@ -262,7 +262,7 @@ class SealedReader(Sealed):
     is returned only after the last record was verified and `file` has ended. A fault raises `SealedFileError`, and each
     later read or seek raises it again. After any other exception from a read or a seek in `file`, make a new reader: later
     reads and seeks raise `OSError`, though not always after a `MemoryError` or a signal handler's exception. The first
-    28 bytes are read when the reader is made. `file` is not closed.
+    28 bytes are read when the reader is made: if `file` does not block, it has to have them by then. `file` is not closed.
 
     If `file` can seek, the reader can. Unless the record of the place is where `SealedWriter` would have put it, it is
     found with the lengths of the records before it, whose contents are not verified. To read line by line, wrap the

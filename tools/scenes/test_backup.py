@@ -50,6 +50,7 @@ class Backup(Scene):
     def test_failures(self):
         self.tool(2, ["bash", SCRIPT, "key", "store"], "usage: backup.sh KEY STORE PATH..")
         self.tool(2, ["bash", SCRIPT, "key", "store", "docs"], "not an absolute path: docs")
+        self.tool(1, ["bash", SCRIPT, "key", "none", "/small"], "there is no folder none")
         os.symlink("small", "link")
         self.tool(2, ["bash", SCRIPT, "key", "store", f"{os.getcwd()}/link"], "link is a link: give its target")
         for folder in "/", os.getcwd(), f"{os.getcwd()}/store/":
@@ -99,7 +100,7 @@ class Backup(Scene):
     def test_restores(self):
         self.night("2026-04-01", "", 0, lacks=".", TAPE=f"{os.getcwd()}/tape", TAR_OPTIONS="--exclude=small")
         os.mkdir("restored")
-        self.shell(0, "set -o pipefail; $TOOL open -k key store/backup-2026-04-01.sealed - | tar -x -C restored")
+        self.shell(0, "set -o pipefail; $TOOL open -k key store/backup-2026-04-01.sealed - | tar -xf - -C restored")
         self.is_same(f"restored{os.getcwd()}/small", "small")
         self.assertEqual(parts(), [])
 

@@ -97,7 +97,7 @@ class Contents(Scene):
             ends = [end.detach() for end in socket.socketpair(socket.AF_UNIX, kind)]
             status, printed = self.sends("seal -k key - lost", ends, text, 70_000)
             self.assertEqual(status, 3)
-            self.assertRegex(printed, rb"\Ahunkravy: standard input is a socket of messages, which may lose a part of one: ")
+            self.assertRegex(printed, rb"\Ahunkravy: standard input is not a stream socket, so a part of a message may be lost: ")
             self.nothing_left("lost")
 
     def test_truncated_pipes(self):

@@ -41,7 +41,7 @@ MESSAGES = (
      r"hunkravy: the mode of standard input lets others read or change the key: run chmod 600"),
     ("$TOOL check -k key nowhere", 3, rf"hunkravy: nowhere cannot be read: {MISSING}"),
     ("$TOOL check -k key ''", 3, rf"hunkravy: '' cannot be read: {MISSING}"),
-    ("$TOOL seal -k key . out", 3, r"hunkravy: \. is a folder: give a file, or seal a folder with tar -c FOLDER \| hunkravy seal -k KEY - OUT"),
+    ("$TOOL seal -k key . out", 3, r"hunkravy: \. is a folder: give a file, or seal a folder with tar -cf - FOLDER \| hunkravy seal -k KEY - OUT"),
     ("$TOOL open -k key --from 1 - out", 2, r"hunkravy: --from and --length need a file as IN"),
     ("$TOOL seal -k - - out", 2,
      r"hunkravy: standard input can be used only once: give files for IN and for any second key"),
@@ -94,7 +94,7 @@ MESSAGES = (
 )
 # These need an input of 2^61 bytes, and a command line that is not understood and not rejected. The last is not printed.
 UNREACHABLE = "is longer than a sealed file can be", "no command: see hunkravy --help", "standard error leads to what is read"
-ELSEWHERE = ("is a socket of messages, which may lose a part of one: read from a pipe or a file",)
+ELSEWHERE = ("is not a stream socket, so a part of a message may be lost: read from a pipe or a file",)
 
 
 class Messages(Scene):

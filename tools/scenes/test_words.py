@@ -57,7 +57,7 @@ class Words(Scene):
             self.tool(2, f"open -k key --{option} -1 sealed out", f"^error: invalid value '-1' for '--{option} <", "tip")
         self.shell(2, r"exec -a $'\377' $TOOL info sealed", "or the program's own name, is not UTF-8")
         os.mkdir("$(touch pasted)")
-        hint = r"^hunkravy: \$\(touch pasted\) is a folder: give a file, or seal a folder with tar -c FOLDER \|"
+        hint = r"^hunkravy: \$\(touch pasted\) is a folder: give a file, or seal a folder with tar -cf - FOLDER \|"
         self.tool(3, [TOOL, "seal", "-k", "key", "$(touch pasted)", "out"], hint)
         # The tests of the packages have the forms of a key.
         for wrong in "small", "/dev/null", "/dev/zero":

@@ -154,21 +154,21 @@ fn with_files<'a>(alloc: Global, command: Command<'a>) -> Result<Command<'a>, Al
 
 fn seal<'a>(alloc: Global) -> Result<Command<'a>, AllocError> {
     let command = Command::new(alloc, "seal")
-        .about("Seals a file under a key")
+        .about("Encrypts a file under a key")
         .arg(key_argument(alloc))?;
     with_files(alloc, command)
 }
 
 fn open<'a>(alloc: Global) -> Result<Command<'a>, AllocError> {
     let command = Command::new(alloc, "open")
-        .about("Opens a sealed file, or a part of it")
+        .about("Decrypts a sealed file, or a part of it")
         .arg(key_argument(alloc))?;
     with_files(alloc, with_part(alloc, command)?)
 }
 
 fn rekey<'a>(alloc: Global) -> Result<Command<'a>, AllocError> {
     let command = Command::new(alloc, "rekey")
-        .about("Seals a sealed file again under another key")
+        .about("Encrypts the contents of a sealed file under another key")
         .arg(key_argument(alloc))?
         .arg(new_key_argument(alloc))?;
     with_files(alloc, command)
@@ -204,7 +204,7 @@ pub fn command<'a>(
     notes: &'a str,
 ) -> Result<Command<'a>, AllocError> {
     let program = Command::new(alloc, "hunkravy")
-        .about("Seals and opens files with AEGIS-256")
+        .about("Encrypts and decrypts files with AEGIS-256")
         .version(version)
         .after_help(notes)
         .subcommand_required(true)

@@ -37,9 +37,9 @@ pub enum Failure<'a> {
     PastBytes(Name<'a>, u64),
     #[error("{0} cannot be read: {1}")]
     Input(Name<'a>, io::Error),
-    #[error("{0} is a socket of messages, which may lose a part of one: read from a pipe or a file")]
+    #[error("{0} is not a stream socket, so a part of a message may be lost: read from a pipe or a file")]
     Messages(Name<'a>),
-    #[error("{0} is a folder: give a file, or seal a folder with tar -c FOLDER | hunkravy seal -k KEY - OUT")]
+    #[error("{0} is a folder: give a file, or seal a folder with tar -cf - FOLDER | hunkravy seal -k KEY - OUT")]
     Folder(Name<'a>),
     #[error("{0} cannot be written: {1}")]
     Output(Name<'a>, io::Error),

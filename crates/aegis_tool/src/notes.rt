@@ -7,7 +7,7 @@ Examples:
   hunkravy seal -k backup.key backup.tar backup.sealed
   hunkravy check -k backup.key backup.sealed
   hunkravy open -k backup.key backup.sealed restored.tar
-  tar -c docs | hunkravy seal -k backup.key - docs.sealed
+  tar -cf - docs | hunkravy seal -k backup.key - docs.sealed
   hunkravy open -k backup.key docs.sealed docs.tar
   hunkravy open -k backup.key --from 1000000 --length 512 docs.sealed part
   hunkravy rekey -k backup.key -n new.key docs.sealed docs.new
