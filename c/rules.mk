@@ -2,6 +2,9 @@
 .PHONY: c-library c-libraries install check-c check-header check-c++ check-sanitized check-rebuilt check-shared check-manual \
 	check-level check-sodium check-musl check-abi abi check-time check-install gcc-aarch64-linux-gnu qemu-user
 
+# Finds files, but not what was built.
+FILES = find . -name .git -prune -o -name out -prune -o -name target -prune -o -type f
+
 CC = gcc
 C_FLAGS = -Wall -Wextra -Wpedantic -Werror -Ic/include
 SANITIZERS = -O1 -g -fsanitize=address,undefined -fno-sanitize-recover
@@ -133,12 +136,12 @@ check-header: check-manual
 		echo 'left out: the headers by clang, which is not installed'; \
 	fi
 	if clang-format --version 2> /dev/null | grep -q 'version 14'; then \
-		clang-format --dry-run -Werror $$(git ls-files '*.c'); \
+		clang-format --dry-run -Werror $$($(FILES) -name '*.c' -print); \
 	else \
 		echo 'left out: the layout of C, since clang-format 14 is not installed'; \
 	fi
 	if command -v shellcheck > /dev/null; then \
-		shellcheck -S warning $$(git ls-files '*.sh' dist/debian/tests ':!*control'); \
+		shellcheck -S warning $$($(FILES) -name '*.sh' -print) dist/debian/tests/{library,tool}; \
 	else \
 		echo 'left out: the shell programs by shellcheck, which is not installed'; \
 	fi

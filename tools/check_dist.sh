@@ -42,12 +42,16 @@ for entry in zipfile.ZipFile(sys.argv[1]).infolist():
     print(entry.filename + {0o644: "", 0o664: "", 0o755: "*"}[entry.external_attr >> 16 & 0o777])' "$wheel"
     done
 }
+# files [FOLDER]: those of the repository in a folder of it.
+files() {
+    if [ -e .git ]; then git ls-files "$@"; else find "${1:-.}" -type f ! -name '*.pyc'; fi
+}
 # What dist/contents.txt lists, for x86-64 and for ARM: the same without the tool. A line with two folders stands for the files
-# that git has in the second one, in the first one.
+# of the repository that are in the second one, in the first one.
 listed() {
     while read -r line; do
         case $line in
-        *'/ '*) git ls-files "${line#* }" | sed "s|^${line#* }|${line% *}|" ;;
+        *'/ '*) files "${line#* }" | sed "s|^${line#* }|${line% *}|" ;;
         *) echo "$line" ;;
         esac
     done < dist/contents.txt
@@ -69,6 +73,14 @@ if ls "$dist"/*aarch64* > /dev/null 2>&1; then
     lists for_arm aarch64
 else
     echo 'left out: the archive for ARM, since aarch64-linux-gnu-gcc is not installed'
+fi
+
+# The sources are those of the commit, and name it.
+if [ -e .git ]; then
+    mkdir "$work/source"
+    tar -C "$work/source" --strip-components=1 -xf "$dist/hunkravy-$version-source.tar.gz"
+    (cd "$work/source" && find . ! -type d | sed 's|^\./||') | LC_ALL=C sort | diff <(files | LC_ALL=C sort) - || fail 'the sources lack files'
+    [ "$(cd "$work/source" && . tools/revision.sh && revision)" = "$commit" ] || fail 'the sources name another commit'
 fi
 
 # The packages of the library for two processors can be installed side by side: what both have is the same.
