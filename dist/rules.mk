@@ -1,10 +1,12 @@
 # What is released.
 .PHONY: dist check-dist sign
 
-# Writes the archives, the packages and their sums to out/dist. If the tools for ARM are there, its archive too.
+# Writes the archives, the packages and their sums to out/dist. If the tools for ARM are there, its archive too, and
+# with musl-gcc the wheel for musl.
 HAS_ARM = $(shell command -v aarch64-linux-gnu-gcc)
+HAS_MUSL = $(shell command -v musl-gcc)
 
-dist: $(OUT)/both/libhunkravy.a $(OUT)/both/$(SONAME) $(OUT)/both/hunkravy $(SDIST) $(WHEEL) \
+dist: $(OUT)/both/libhunkravy.a $(OUT)/both/$(SONAME) $(OUT)/both/hunkravy $(SDIST) $(WHEEL) $(if $(HAS_MUSL),$(WHEEL_musl)) \
 		$(if $(HAS_ARM),$(OUT)/aarch64/libhunkravy.a $(OUT)/aarch64/$(SONAME) $(WHEEL_aarch64))
 	tools/pack.sh $(VERSION) $(OUT)
 

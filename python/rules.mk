@@ -5,6 +5,7 @@ SDIST = $(OUT)/hunkravy-$(VERSION).tar.gz
 WHEEL_NAME = $(OUT)/hunkravy-$(VERSION)-cp311-abi3-manylinux_2_17
 WHEEL = $(WHEEL_NAME)_x86_64.whl
 WHEEL_aarch64 = $(WHEEL_NAME)_aarch64.whl
+WHEEL_musl = $(OUT)/hunkravy-$(VERSION)-cp311-abi3-musllinux_1_2_x86_64.whl
 PACKAGE = python/setup.py python/pyproject.toml python/MANIFEST.in LICENSE $(wildcard python/native/*) \
 	$(wildcard python/hunkravy/*.py python/hunkravy/*.pyi python/hunkravy/py.typed)
 MODULE_HEADERS = c/include/hunkravy.h c/include/hunkravy_file.h c/include/hunkravy_records.h
@@ -37,6 +38,13 @@ $(WHEEL_aarch64): $(SDIST) $(OUT)/aarch64/libhunkravy.a
 	mkdir -p $(OUT)/aarch64/include && ln -sfn /usr/include/x86_64-linux-gnu $(OUT)/aarch64/include/aarch64-linux-gnu
 	CC=$(TOOLS_aarch64)gcc CPATH="$(abspath $(OUT)/aarch64/include)" HUNKRAVY_LIB_DIR="$(abspath $(OUT)/aarch64)" \
 		_PYTHON_HOST_PLATFORM=manylinux_2_17-aarch64 $(BUILD_WHEEL)
+
+# musl-gcc has no folder of headers but that of musl. Setuptools names that of Debian's libraries, where the linker would find
+# glibc, so that of musl comes first.
+$(WHEEL_musl): $(SDIST)
+	mkdir -p $(OUT)/musl/include && ln -sfn /usr/include/x86_64-linux-gnu $(OUT)/musl/include/x86_64-linux-gnu
+	CC=musl-gcc CPATH="$(abspath $(OUT)/musl/include)" LDFLAGS=-L/usr/lib/x86_64-linux-musl \
+		_PYTHON_HOST_PLATFORM=musllinux_1_2-x86_64 $(BUILD_WHEEL)
 
 # The package, unpacked from its wheel.
 python-package: $(WHEEL)

@@ -44,6 +44,7 @@ pub struct Aegis {
 impl Aegis {
     /// The state of this variant whose rows are zeros.
     fn blank(variant: u32) -> Self {
+        core::hint::black_box(&crate::hunkravy_proved_nothing);
         Aegis { rows: [[zero(); 4]; 8], lanes: [1, 2, 4][variant as usize % 3], is_256: variant >= 3 }
     }
 

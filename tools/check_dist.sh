@@ -29,13 +29,13 @@ entries() {
     awk '$1 !~ /^(.rwxr-xr-x|-rw-r--r--|lrwxrwxrwx)$/ || $2 !~ /^(0\/0|root\/root)$/ { print "wrong:", $0 }
         !/^d/ { print $6 ($1 ~ /^-rwx/ ? "*" : "") ($7 ? " " $7 " " $8 : "") }'
 }
-# contents MACHINE: those of the archive and of the wheel for a processor. dist/debian lists those of the Debian packages.
+# contents MACHINE: those of the archive and of the wheel of glibc for a processor. dist/debian lists those of the Debian packages.
 contents() {
     for archive in *"$1"*.tar.gz; do
         echo "== $archive"
         tar --numeric-owner -tvzf "$archive" | entries | sed "s|^${archive%.tar.gz}/||"
     done
-    for wheel in *"$1".whl; do
+    for wheel in *manylinux*"$1".whl; do
         echo "== $wheel"
         python3 -c 'import sys, zipfile
 for entry in zipfile.ZipFile(sys.argv[1]).infolist():
@@ -46,8 +46,8 @@ for entry in zipfile.ZipFile(sys.argv[1]).infolist():
 files() {
     if [ -e .git ]; then git ls-files "$@"; else find "${1:-.}" -type f ! -name '*.pyc'; fi
 }
-# What dist/contents.txt lists, for x86-64 and for ARM: the same without the tool. A line with two folders stands for the files
-# of the repository that are in the second one, in the first one.
+# What dist/contents.txt lists, for x86-64, without musl-gcc, and for ARM: the same without the tool. A line with two folders
+# stands for the files of the repository that are in the second one, in the first one.
 listed() {
     while read -r line; do
         case $line in
@@ -56,8 +56,11 @@ listed() {
         esac
     done < dist/contents.txt
 }
+without_musl() {
+    listed | grep -v musllinux
+}
 for_arm() {
-    listed | grep -vE '^bin/|share/(bash|fish|man/man1|zsh)|backup\.sh|^docs/SEALED' | sed 's/x86_64/aarch64/g'
+    without_musl | grep -vE '^bin/|share/(bash|fish|man/man1|zsh)|backup\.sh|^docs/SEALED' | sed 's/x86_64/aarch64/g'
 }
 # Each line after the name of its package, in order.
 in_order() {
@@ -68,7 +71,13 @@ lists() {
     (cd "$dist" && contents "$2") | sed "s/$version/VERSION/g" | in_order > "$out/contents-$2.txt"
     "$1" | in_order | diff - "$out/contents-$2.txt" || fail "dist/contents.txt does not list what is packed, as $out/contents-$2.txt does"
 }
-lists listed x86_64
+musl=$(find "$dist" -name '*musllinux*')
+if [ "$musl" ]; then
+    lists listed x86_64
+else
+    lists without_musl x86_64
+    echo 'left out: the wheel for musl, since musl-gcc is not installed'
+fi
 if ls "$dist"/*aarch64* > /dev/null 2>&1; then
     lists for_arm aarch64
 else
@@ -103,11 +112,17 @@ done
 mkdir -p "$work/system/var/lib/dpkg"
 dpkg=(dpkg --root="$work/system" --force-depends --force-not-root --force-script-chrootless --log=/dev/null)
 "${dpkg[@]}" -i "$dist"/*_amd64.deb > "$work/said" 2>&1 || { cat "$work/said"; fail 'the packages cannot be installed'; }
-"${install_to[@]}" "$work/site" "$dist"/*_x86_64.whl
+"${install_to[@]}" "$work/site" "$dist"/*manylinux*_x86_64.whl
 folder=$work/empty/hunkravy-$version-x86_64-linux system=$work/system/usr
 
+# The wheel for musl has the files of the one for glibc, with a module of its own.
+if [ "$musl" ]; then
+    for libc in many musl; do python3 -m zipfile -e "$dist"/*"$libc"linux*_x86_64.whl "$work/wheels/$libc"; done
+    diff -rq -x _native.abi3.so -x RECORD -x WHEEL "$work"/wheels/* || fail 'the wheel for musl has other files'
+fi
+
 # Nothing is linked with the stand-in for the proved library.
-if grep -rFl 'a stand-in for hunkravy' "$work/empty" "$work/site" "$work/system"; then fail 'these files have the stand-in'; fi
+if grep -rFl 'a stand-in for hunkravy' "$work/empty" "$work/site" ${musl:+"$work/wheels"} "$work/system"; then fail 'these files have the stand-in'; fi
 
 # has FILE EXPRESSION: whether a line of a file is matched.
 has() {
@@ -168,10 +183,11 @@ glibc 2.17 "$folder/lib/libhunkravy.so.0" "$work/site/hunkravy/_native.abi3.so"
 glibc 2.34 "$folder/bin/hunkravy"
 
 # What is compiled from C checks its stack and its copies, is bound before it runs, and begins each function with a landing pad.
+# hardened FILE [NAME]: NAME checks copies, and is empty for musl, which has no such function.
 hardened() {
     local symbols functions
     symbols=$(readelf -W --dyn-syms "$1")
-    for name in __stack_chk_fail __memcpy_chk; do
+    for name in __stack_chk_fail ${2-__memcpy_chk}; do
         [[ $symbols == *" UND $name"* ]] || fail "$1 does not call $name"
     done
     [[ $(readelf -Wld "$1") =~ GNU_STACK.*' RW  '.*GNU_RELRO.*NOW ]] || fail "$1 has an executable stack, or can be bound later"
@@ -181,6 +197,16 @@ hardened() {
 for file in "$work"/empty/*/lib/libhunkravy.so.0 "$system"/lib/*/libhunkravy.so.0 "$work/site/hunkravy/_native.abi3.so"; do
     hardened "$file"
 done
+
+# loads FOLDER: whether musl's loader misses nothing that the module there needs, but symbols of Python.
+loads() {
+    ! grep -vE 'ld-musl|: _?Py\w+: symbol not found$' <(/lib/ld-musl-x86_64.so.1 --list "$1/hunkravy/_native.abi3.so" 2>&1)
+}
+if [ "$musl" ]; then
+    hardened "$work/wheels/musl/hunkravy/_native.abi3.so" ''
+    loads "$work/wheels/musl" || fail 'the wheel for musl needs more than musl and Python'
+    if loads "$work/wheels/many" > /dev/null; then fail 'a module for glibc passes for one for musl'; fi
+fi
 
 # The sums of the release are right, by the command of its page.
 command=$(sed -n 's/^2\. .*`\(sha256sum [^`]*\)`.*/\1/p' dist/VERIFY.md)
@@ -249,7 +275,7 @@ if command -v cargo > /dev/null; then
     use CARGO_TARGET_DIR=target cargo run -q --offline --manifest-path "$folder/rust/Cargo.toml" --example first
 fi
 # Python: the wheel, and its sources, with the system's setuptools and with one that pip takes from a folder of wheels.
-for words in "$folder/python/*.whl" "$folder/python/*.tar.gz --no-build-isolation" "$folder/python/*.tar.gz --find-links=/usr/share/python-wheels"; do
+for words in "$folder/python/*manylinux*.whl" "$folder/python/*.tar.gz --no-build-isolation" "$folder/python/*.tar.gz --find-links=/usr/share/python-wheels"; do
     if [[ $words == *find-links* ]] && ! ls /usr/share/python-wheels/wheel-*.whl > /dev/null 2>&1; then
         echo 'left out: a build in isolation, since python3-setuptools-whl and python3-wheel-whl are not installed'
         continue

@@ -46,17 +46,17 @@ sources() {
     pack "hunkravy-$version"
 }
 
-# archive MACHINE STRIP: the archive for a processor, and its wheel.
+# archive MACHINE STRIP: the archive for a processor, and its wheels.
 archive() {
     local name=hunkravy-$version-$1-linux pages
-    local folder=$work/$name wheel=$out/hunkravy-$version-cp311-abi3-manylinux_2_17_$1.whl
+    local folder=$work/$name wheels=("$out/hunkravy-$version"-cp311-abi3-*_"$1.whl")
     local install=("${MAKE:-make}" --no-print-directory -s PREFIX= "DESTDIR=$folder" "OUT=$out")
     "${install[@]}" install "TARGET=$1-unknown-linux-gnu" > /dev/null
     "$2" "$folder"/lib/libhunkravy.so.*.*
     mkdir -p "$folder/rust/lib" "$folder/python"
     cp -R rust/Cargo.toml rust/Cargo.lock rust/build.rs rust/src rust/examples "$folder/rust"
     cp "$folder/lib/libhunkravy.a" "$folder/rust/lib"
-    cp -R python/examples "$wheel" "$out/dist/hunkravy-$version.tar.gz" "$folder/python"
+    cp -R python/examples "${wheels[@]}" "$out/dist/hunkravy-$version.tar.gz" "$folder/python"
     pages=(SECURITY.md CHANGELOG.md docs/{RANDOM-ACCESS,FORMATS,DIFFERENCES}.md {c,rust,python}/README.md)
     for part in "$folder" "$folder/rust"; do
         cp LICENSE "$part"
@@ -75,7 +75,7 @@ archive() {
     cp dist/VERIFY.md "$folder"
     cp bench/x86-64-v3/peers.svg "$folder/speed.svg"
     pack "$name"
-    cp "$wheel" "$out/dist"
+    cp "${wheels[@]}" "$out/dist"
 }
 
 # ship PACKAGE PAGE..: pages of a Debian package, all in one folder. Only those of one call link to each other.

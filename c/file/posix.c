@@ -53,8 +53,13 @@ int hunkravy_file_is_this(const struct process *process)
 int hunkravy_hold_descriptors(void)
 {
     for (int fd = STDIN_FILENO; fd <= STDERR_FILENO; fd++) {
-        if (fcntl(fd, F_GETFD) == -1 && open("/", O_PATH | O_CLOEXEC) < 0) {
+        int held = fcntl(fd, F_GETFD) == -1 ? open("/", O_PATH | O_CLOEXEC) : fd;
+        if (held < 0) {
             return errno;
+        }
+        if (held > STDERR_FILENO) {
+            /* Another thread has taken it meanwhile. */
+            close(held);
         }
     }
     return 0;
@@ -169,6 +174,23 @@ static int check_name(const struct posix *posix)
     TRY(look(posix->file, &own));
     TRY(find(posix->path, &found, &is_there));
     return is_there && own.st_nlink == 1 && is_same(&own, &found) ? 0 : HUNKRAVY_FILE_MOVED;
+}
+
+static int has_path(int fd, const char *path)
+{
+    struct stat own, found;
+    int is_there;
+    TRY(look(fd, &own));
+    TRY(find(path, &found, &is_there));
+    return is_there && is_same(&own, &found) ? 0 : HUNKRAVY_WRONG_JOURNAL;
+}
+
+/* Checks that the file and its journal, which is open, still have their names: writing and syncing take a while, and another
+ * program may have put its own there. */
+static int check_names(const struct posix *posix)
+{
+    TRY(check_name(posix));
+    return has_path(posix->journal, posix->journal_path);
 }
 
 /* Syncs the names in the folder. If the user may not read the folder, they cannot be. */
@@ -368,17 +390,6 @@ static int system_reserve(void *context, uint64_t from, uint64_t end)
     return posix->journal < 0 ? make_beside(posix, posix->journal_path, &posix->journal) : 0;
 }
 
-/* Checks that the file and its journal still have their names. The journal is open. */
-static int check_names(const struct posix *posix)
-{
-    struct stat own, found;
-    int is_there;
-    TRY(check_name(posix));
-    TRY(look(posix->journal, &own));
-    TRY(find(posix->journal_path, &found, &is_there));
-    return is_there && is_same(&own, &found) ? 0 : HUNKRAVY_WRONG_JOURNAL;
-}
-
 static int system_replace(void *context, const uint8_t *bytes, size_t length)
 {
     struct posix *posix = context;
@@ -390,7 +401,9 @@ static int system_replace(void *context, const uint8_t *bytes, size_t length)
         code = sync_fd(made);
     }
     if (code == 0) {
-        /* Writing and syncing took a while: another program may have put its own there. */
+        code = has_path(made, posix->copy_path);
+    }
+    if (code == 0) {
         code = check_names(posix);
     }
     if (code == 0) {
@@ -440,7 +453,7 @@ static int sync_journal(struct posix *posix)
             TRY(sync_folder(posix));
         }
         posix->is_journal_name_synced = 1;
-        return 0;
+        return check_names(posix);
     }
     if (find(posix->journal_path, &found, &is_there) == 0 && is_there && is_same(&own, &found)) {
         unlink(posix->journal_path);

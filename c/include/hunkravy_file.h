@@ -34,12 +34,14 @@
  * RESULTS. A function that is marked HUNKRAVY_MUST_USE returns HUNKRAVY_OK, a code of hunkravy.h (negative), or an error
  * number of the system, such as ENOSPC (positive). hunkravy_file_error_text has a message for each. After ENOMEM nothing
  * has changed, unless the function's comment says so. EINVAL means that PATH.journal is not a regular file, has several
- * names, or may be written by a user who may not write the file. If descriptor 0, 1 or 2 is closed, the library opens the
- * folder / there, and keeps it: so no file gets what a program prints. These codes are of files:
+ * names, may be written by a user who may not write the file, was exchanged meanwhile, or could not be made so that it is
+ * safe. If descriptor 0, 1 or 2 is closed, the library opens the folder / there, and keeps it: so no file gets what a
+ * program prints. These codes are of files:
  *
  * - HUNKRAVY_NO_FILE: there is no header of this variant and key. The key is wrong, or the file is empty, damaged or
  *   another. If there is no file at the path, the error is ENOENT.
- * - HUNKRAVY_WRONG_JOURNAL: the journal is that of another file, or of another state of this one.
+ * - HUNKRAVY_WRONG_JOURNAL: the journal is that of another file, or of another state of this one, or another program has
+ *   put its own in the place of the journal or its copy.
  * - HUNKRAVY_DAMAGED_PAGE: a page is not authentic. hunkravy_file_damaged_page has its number.
  * - HUNKRAVY_FILE_TOO_LONG: the contents would be longer than 2^60 bytes, or no more commits are possible.
  * - HUNKRAVY_FILE_LOCKED: the file is open already, here or in another process. After a fork it is open in the process
@@ -78,8 +80,8 @@ HUNKRAVY_MUST_USE int hunkravy_file_create(hunkravy_file **file, const char *pat
 /*
  * Opens and locks the file at a path, and completes a commit that was interrupted, or discards all of it. After an error
  * `*file` is null. After any of the codes above nothing has changed, with two exceptions. Before HUNKRAVY_NO_FILE, a journal
- * that was made with the key and has no header may have been applied. Before HUNKRAVY_WRONG_JOURNAL, the commit may have
- * been completed, if a program has put another journal there since. After any system error except EINVAL, open the file
+ * that was made with the key and has no header may have been applied. Before HUNKRAVY_WRONG_JOURNAL or EINVAL, the commit
+ * may have been completed, if a program has put something else there since. After any other system error, open the file
  * again: the commit may have been completed, even with ENOMEM.
  */
 HUNKRAVY_MUST_USE int hunkravy_file_open(hunkravy_file **file, const char *path, uint32_t variant, const uint8_t *k,

@@ -93,12 +93,17 @@ static int write_precious(void)
     return write_precious_to(path);
 }
 
-/* The name of the journal. */
-static const char *journal_path(void)
+/* The path of a file beside the file. */
+static const char *beside(const char *extension)
 {
     static char name[sizeof path + 8];
-    snprintf(name, sizeof name, "%s.journal", path);
+    snprintf(name, sizeof name, "%s%s", path, extension);
     return name;
+}
+
+static const char *journal_path(void)
+{
+    return beside(".journal");
 }
 
 static int write_journal(void)
@@ -113,16 +118,24 @@ static int write_journal_later(void)
 }
 
 static int waits;
+static const char *exchanged;
 
-/* Another program puts its own journal there, after so many calls. */
-static int replace_journal(void)
+/* Another program puts its own file there, after so many calls. */
+static int exchange(void)
 {
     if (waits-- > 0) {
-        meanwhile = replace_journal;
+        meanwhile = exchange;
         return 0;
     }
-    HOLDS(unlink(journal_path()) == 0);
-    return write_journal();
+    HOLDS(unlink(beside(exchanged)) == 0);
+    return write_precious_to(beside(exchanged));
+}
+
+static void exchange_later(const char *extension, int calls_before)
+{
+    exchanged = extension;
+    waits = calls_before;
+    meanwhile = exchange;
 }
 
 static int replace_file(void)
@@ -186,20 +199,55 @@ static void check_openings(void)
     calls[0] = '\0';
 }
 
-/* Recovery replaces no other journal than it has read: here one that appears while its copy is synced. */
+static void has_contents(const char *expected)
+{
+    hunkravy_file *file;
+    char found[6];
+    size_t length;
+    HOLDS(hunkravy_file_open(&file, path, HUNKRAVY_AEGIS256, key, sizeof key) == 0);
+    HOLDS(hunkravy_file_read(file, 0, found, sizeof found, &length) == 0);
+    HOLDS(length == sizeof found && memcmp(found, expected, sizeof found) == 0);
+    HOLDS(hunkravy_file_close(file) == 0);
+}
+
+/* Recovery goes on with no other journal or copy of it than its own: here one that appears while the copy is synced. */
 static void check_exchanged(void)
 {
     hunkravy_file *file;
-    HOLDS(hunkravy_file_create(&file, path, HUNKRAVY_AEGIS256, key, sizeof key, 0) == 0);
-    HOLDS(hunkravy_file_write(file, 0, "after!", 6) == 0);
-    writes_left = 2;
-    HOLDS(hunkravy_file_commit(file) == EIO && hunkravy_file_close(file) == HUNKRAVY_FILE_BROKEN);
-    writes_left = ALL;
-    waits = 4;
-    meanwhile = replace_journal;
-    HOLDS(hunkravy_file_open(&file, path, HUNKRAVY_AEGIS256, key, sizeof key) == HUNKRAVY_WRONG_JOURNAL);
-    HOLDS(meanwhile == NULL && has_precious(journal_path()));
-    HOLDS(unlink(journal_path()) == 0 && unlink(path) == 0);
+    for (int is_copy = 0; is_copy < 2; is_copy++) {
+        HOLDS(hunkravy_file_create(&file, path, HUNKRAVY_AEGIS256, key, sizeof key, 0) == 0);
+        HOLDS(hunkravy_file_write(file, 0, "after!", 6) == 0);
+        writes_left = 2;
+        HOLDS(hunkravy_file_commit(file) == EIO && hunkravy_file_close(file) == HUNKRAVY_FILE_BROKEN);
+        writes_left = ALL;
+        exchange_later(is_copy ? ".jrncopy" : ".journal", 4);
+        HOLDS(hunkravy_file_open(&file, path, HUNKRAVY_AEGIS256, key, sizeof key) == HUNKRAVY_WRONG_JOURNAL);
+        HOLDS(meanwhile == NULL && has_precious(journal_path()) == !is_copy);
+        HOLDS(is_copy || unlink(journal_path()) == 0);
+        if (is_copy) {
+            has_contents("after!");
+        }
+        HOLDS(unlink(path) == 0);
+    }
+    calls[0] = '\0';
+}
+
+/* A commit writes nothing to its file unless the journal that it has synced has its name: here another one appears at each of the
+ * three syncs before. */
+static void check_exchanged_in_commits(void)
+{
+    hunkravy_file *file;
+    for (int syncs = 0; syncs < 3; syncs++) {
+        HOLDS(hunkravy_file_create(&file, path, HUNKRAVY_AEGIS256, key, sizeof key, 0) == 0);
+        HOLDS(hunkravy_file_write(file, 0, "before", 6) == 0 && hunkravy_file_commit(file) == 0);
+        HOLDS(hunkravy_file_write(file, 0, "after!", 6) == 0);
+        exchange_later(".journal", syncs);
+        HOLDS(hunkravy_file_commit(file) == HUNKRAVY_WRONG_JOURNAL && meanwhile == NULL);
+        HOLDS(hunkravy_file_close(file) == HUNKRAVY_WRONG_JOURNAL && has_precious(journal_path()));
+        HOLDS(unlink(journal_path()) == 0);
+        has_contents("before");
+        HOLDS(unlink(path) == 0);
+    }
     calls[0] = '\0';
 }
 
@@ -350,6 +398,7 @@ int main(void)
     check_creations();
     check_openings();
     check_exchanged();
+    check_exchanged_in_commits();
     check_order();
     check_signals();
     check_commits_that_fail();

@@ -8,17 +8,18 @@
 set -euo pipefail
 keep=${KEEP:-30}
 [ $# -ge 3 ] || { echo 'usage: backup.sh KEY STORE PATH..' >&2; exit 2; }
-[[ $keep =~ ^(0|[1-9][0-9]*)$ ]] || { echo "backup.sh: KEEP must be a number such as 30, not $keep" >&2; exit 2; }
-key=$1 store=$2
+[[ $keep =~ ^(0|[1-9][0-9]{0,8})$ ]] || { echo "backup.sh: KEEP must be a number such as 30, not $keep" >&2; exit 2; }
+key=$1
+store=$(realpath -e -- "$2")
 shift 2
 unset TAPE TAR_OPTIONS
+shopt -s nullglob
 for path in "$@"; do
     [[ $path == /* ]] || { echo "backup.sh: not an absolute path: $path" >&2; exit 2; }
-    [ ! -L "${path%/}" ] || { echo "backup.sh: $path is a link: give its target" >&2; exit 2; }
+    [ ! -L "$(realpath -ms "$path")" ] || { echo "backup.sh: $path is a link: give its target" >&2; exit 2; }
     folder=$(realpath -m "$path")
-    [[ $(realpath -m -- "$store")/ != "${folder%/}"/* ]] || { echo "backup.sh: $path contains $store" >&2; exit 2; }
+    [[ $store/ != "${folder%/}"/* ]] || { echo "backup.sh: $path contains $store" >&2; exit 2; }
 done
-[ -d "$store" ] || { echo "backup.sh: there is no folder $store" >&2; exit 1; }
 today=$(date +%F)
 part=$store/backup.part
 
@@ -27,9 +28,15 @@ exec 9> "$store/backup.lock"
 flock -n 9 || { echo "backup.sh: another run uses $store" >&2; exit 1; }
 rm -f "$part" "$store"/.backup.part.hunkravy-*
 
+# The backups of all days, the oldest first.
+find_backups() {
+    backups=("$store"/backup-[0-9][0-9][0-9][0-9]-[0-9][0-9]-[0-9][0-9].sealed)
+}
+
 # A clock that is behind would make today's backup the oldest one, which is removed.
-for backup in "$store"/backup-????-??-??.sealed; do
-    if [ -e "$backup" ] && [[ $backup > $store/backup-$today.sealed ]]; then
+find_backups
+for backup in "${backups[@]}"; do
+    if [[ $backup > $store/backup-$today.sealed ]]; then
         echo "backup.sh: no backup today: the clock is behind $backup (remove it if its date is wrong)" >&2
         exit 1
     fi
@@ -43,14 +50,15 @@ archive "$@" | hunkravy seal -q -k "$key" - "$part" || { rm -f "$part"; echo 'ba
 mv "$part" "$store/backup-$today.sealed"
 sync "$store"
 
-backups=("$store"/backup-????-??-??.sealed)
+find_backups
 extra=$((${#backups[@]} - keep))
 if [ "$extra" -gt 0 ] && [ "$keep" -gt 0 ]; then rm "${backups[@]:0:extra}"; fi
 
 # Once a month all of them are verified, by the first run that gets here, and by later ones until none is damaged.
 month=${today%-*} result=0
 if [ "$(cat "$store/backup.checked" 2> /dev/null)" != "$month" ]; then
-    for backup in "$store"/backup-????-??-??.sealed; do hunkravy check -q -k "$key" "$backup" || result=1; done
+    find_backups
+    for backup in "${backups[@]}"; do hunkravy check -q -k "$key" "$backup" || result=1; done
     if [ "$result" = 0 ]; then echo "$month" > "$store/backup.checked"; fi
 fi
 exit "$result"

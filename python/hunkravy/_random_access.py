@@ -46,9 +46,10 @@ class RandomAccessFile(variants.Secret, _native.RandomAccessFile):
     commit that was interrupted, or discards all of it. `create` makes an empty one.
 
     Changes stay in memory until a commit: `commit`, the end of the outermost `batch`, `close`, the end of a `with` block,
-    or outside a batch a write or a growing `truncate` once more than 16 MiB of pages are changed. **After a crash
-    all changes of a commit are there, or none.** A commit first writes them to the journal, the file `PATH.journal`, and
-    removes it at the end. `PATH.journal` and `PATH.jrncopy` belong to the file: opening may remove them.
+    or outside a batch a stream that is closed, flushed or freed, and a write or a growing `truncate` once more than 16 MiB
+    of pages are changed. **After a crash all changes of a commit are there, or none.** A commit first writes them to the
+    journal, the file `PATH.journal`, and removes it at the end. `PATH.journal` and `PATH.jrncopy` belong to the file:
+    opening may remove them.
 
     The file is locked while it is open, and belongs to the process that opened it. As in `sqlite3` only the thread that
     opened it may use it, unless `check_same_thread` is false. Then calls wait for each other, and threads have to take
@@ -56,7 +57,9 @@ class RandomAccessFile(variants.Secret, _native.RandomAccessFile):
     `MemoryError`. Wrong arguments and a closed file raise `ValueError`, `OverflowError` or `TypeError`, and another
     thread or a lost batch `RuntimeError`.
 
-    An exception that leaves a `with` block discards the changes. A file that is dropped without `close` loses them too.
+    An exception that leaves a `with` block discards the changes that are not committed yet. Use a `batch` around a
+    `ZipFile`, an `io.BufferedRandom` or an `io.TextIOWrapper` over a stream: after an exception they still flush or close
+    it, which commits outside a batch. A file that is dropped without `close` loses its changes too.
     """
 
     __slots__ = ()

@@ -42,7 +42,7 @@ class Metadata(unittest.TestCase):
         assert wheel is not None
         self.assertIn("\nRoot-Is-Purelib: false\n", wheel)
         tags = re.findall("^Tag: (.*)$", wheel, re.M)
-        self.assertRegex(" ".join(tags), rf"^cp311-abi3-(manylinux_2_17|linux)_{os.uname().machine}$")
+        self.assertRegex(" ".join(tags), rf"^cp311-abi3-(manylinux_2_17|musllinux_1_2|linux)_{os.uname().machine}$")
 
 
 @unittest.skipIf("HUNKRAVY_SANITIZED" in os.environ, "the compiler under the address sanitizer")
@@ -89,7 +89,8 @@ class Building(unittest.TestCase):
         self.pip("wheel", "-w", self.folder, SDIST, flags="-Wpadded '-DWORDS=two words'")
         for arguments in self.arguments.read_text().splitlines():
             words = arguments.split()
-            self.assertIn([word for word in words if word.startswith("-O")][-1], ("-O2", "-O3"))
+            if "-shared" not in words:
+                self.assertIn([word for word in words if word.startswith("-O")][-1], ("-O2", "-O3"))
             self.assertIn("-Wpadded", words)
             self.assertNotIn("-Werror", words)
 

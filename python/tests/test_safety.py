@@ -316,9 +316,9 @@ made = [lambda: cipher.encryptor(nonce)._state, lambda: cipher.decryptor(nonce).
         lambda: Aegis256Mac(key, bytes(100))._state, lambda: Aegis256(key)._cipher,
         lambda: SealedReader(io.BytesIO(file.getvalue()), key)._records]
 for make in made:
-    native = make()
-    # Memory after it, so that it stays mapped.
-    kept.append(make())
+    # Memory of its size around it, so that it stays mapped. musl unmaps pages that have nothing else.
+    kept += [make() for _ in range(20)]
+    native = kept.pop(-10)
     place, length = id(native), type(native).__basicsize__
     before = ctypes.string_at(place, length)
     del native
@@ -336,7 +336,7 @@ for end in (lambda: decryptor.finalize(ciphertext[-32:]), lambda: decryptor.fina
     decryptor = cipher.decryptor(nonce)
     decryptor.update(ciphertext[:-32])
     place = ctypes.c_void_p.from_address(id(decryptor._state) + 720).value
-    kept.append(bytes(1000))
+    kept += [bytes(len(message)) for _ in range(20)]
     assert ctypes.string_at(place + 16, len(message)) == message
     try:
         end()

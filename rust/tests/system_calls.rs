@@ -6,16 +6,18 @@
 mod support;
 
 use hunkravy::raf::{Aegis256, Raf};
-use std::cell::RefCell;
+use std::cell::{Cell, RefCell};
 use std::ffi::{CStr, OsStr, c_char, c_int, c_void};
 use std::fs;
 use std::mem::transmute;
 use std::os::unix::ffi::OsStrExt;
-use std::path::Path;
+use std::path::{Path, PathBuf};
 use support::*;
 
 thread_local! {
     static CALLS: RefCell<Vec<String>> = const { RefCell::new(Vec::new()) };
+    /// A path where another program puts its own file, after so many syncs.
+    static EXCHANGE: Cell<Option<(usize, PathBuf)>> = const { Cell::new(None) };
 }
 
 // SAFETY: it is declared as in `dlfcn.h`.
@@ -27,6 +29,14 @@ fn log(call: &str, path: &Path) {
     let name = path.file_name().unwrap_or_default().to_string_lossy();
     let shown = format!("{call} {}", if name.starts_with("hunkravy-") { "folder" } else { &name });
     CALLS.with_borrow_mut(|calls| calls.push(shown));
+    match EXCHANGE.take() {
+        Some((0, path)) if call == "sync" => {
+            fs::remove_file(&path).unwrap();
+            fs::write(&path, "another").unwrap();
+        }
+        Some((syncs, path)) => EXCHANGE.set(Some((syncs - usize::from(call == "sync"), path))),
+        None => {}
+    }
 }
 
 /// Anything by which a call names a file.
@@ -119,4 +129,33 @@ fn the_calls_of_the_system() {
          sync file, resize file.journal, sync file.journal, remove file.journal";
     assert_eq!(text_of(&mut opened.unwrap())[..6], *b"after!");
     assert_eq!(calls(), whole);
+}
+
+/// A commit writes nothing to its file unless the journal that it has synced has its name.
+#[test]
+fn journals_that_are_exchanged_in_a_commit() {
+    for syncs in 0..3 {
+        let folder = Folder::new();
+        let mut file = folder.create().unwrap();
+        file.write(b"contents", 0).unwrap();
+        EXCHANGE.set(Some((syncs, folder.journal())));
+        assert!(file.commit().is_err() && EXCHANGE.take().is_none());
+        drop(file);
+        assert_eq!(fs::read(folder.journal()).unwrap(), b"another");
+        fs::remove_file(folder.journal()).unwrap();
+        assert_eq!(folder.open().unwrap().size(), 0);
+    }
+}
+
+/// A recovery renames no other copy of the journal than its own.
+#[test]
+fn copies_that_are_exchanged() {
+    let folder = Folder::with(b"before");
+    let before = (fs::read(folder.file()).unwrap(), Vec::new());
+    let journal = cut_short(&before, b"after!", 0, JOURNAL_CALLS).bytes().1;
+    fs::write(folder.journal(), &journal).unwrap();
+    EXCHANGE.set(Some((3, folder.path("file.jrncopy"))));
+    assert!(folder.open().is_err() && EXCHANGE.take().is_none());
+    assert!(fs::read(folder.journal()).unwrap() == journal);
+    assert_eq!(folder.text(), b"after!");
 }

@@ -50,12 +50,13 @@ class Backup(Scene):
     def test_failures(self):
         self.tool(2, ["bash", SCRIPT, "key", "store"], "usage: backup.sh KEY STORE PATH..")
         self.tool(2, ["bash", SCRIPT, "key", "store", "docs"], "not an absolute path: docs")
-        self.tool(1, ["bash", SCRIPT, "key", "none", "/small"], "there is no folder none")
+        self.tool(1, ["bash", SCRIPT, "key", "none", "/small"], "none: No such file or directory")
         os.symlink("small", "link")
-        self.tool(2, ["bash", SCRIPT, "key", "store", f"{os.getcwd()}/link"], "link is a link: give its target")
+        for link in "link", "link/", "link//":
+            self.tool(2, ["bash", SCRIPT, "key", "store", f"{os.getcwd()}/{link}"], "is a link: give its target")
         for folder in "/", os.getcwd(), f"{os.getcwd()}/store/":
             self.tool(2, ["bash", SCRIPT, "key", "store", folder], "contains store")
-        for keep in "some", "-1", "010", "08":
+        for keep in "some", "-1", "010", "08", "18446744073709551617":
             self.night("2026-04-01", 0, 2, f"KEEP must be a number such as 30, not {keep}", KEEP=keep)
         self.night("2026-04-01", 0, 0, lacks=".")
         os.rename("key", "gone")
@@ -92,9 +93,11 @@ class Backup(Scene):
         for day in range(10, 16):
             self.night(f"2026-04-{day}", 0, 0, KEEP="3")
         self.assertEqual(self.stored(), ["2026-04-13", "2026-04-14", "2026-04-15"])
-        write("store/backup-of-mine.sealed", b"")
+        others = ["backup-1999-my-02.sealed", "backup-of-mine.sealed", "backup-zeta-01-02.sealed"]
+        for name in others:
+            write(f"store/{name}", b"")
         self.night("2026-04-16", 0, 0, KEEP="1")
-        self.assertEqual(sorted(os.listdir("store")), ["backup-2026-04-16.sealed", "backup-of-mine.sealed", "backup.checked", "backup.lock"])
+        self.assertEqual(set(os.listdir("store")), {"backup-2026-04-16.sealed", "backup.checked", "backup.lock", *others})
 
     # The system's tar, whose archive has the file at its path, whatever tar's variables say.
     def test_restores(self):

@@ -227,8 +227,9 @@ fn write_zeros(file: &File, from: u64, end: u64) -> io::Result<()> {
 ///   a crash leave some of the changes of a commit.
 ///
 /// A journal that is a link or not a file, or has several names (hard links), is rejected with
-/// [`io::ErrorKind::InvalidData`], and nothing is changed. So is one that a user may write who may not write the file, by
-/// owner, group and mode. The owner of a file counts as a member of its group.
+/// [`io::ErrorKind::InvalidData`], and nothing is changed, unless it appears after an interrupted commit was completed. So is one
+/// that a user may write who may not write the file, by owner, group and mode. The owner of a file counts as a member of its
+/// group.
 ///
 /// Before a commit is completed, a synced copy, `PATH.jrncopy`, is renamed over the journal. This needs room: on a full disk the file
 /// does not open until there is some, and nothing is lost.
@@ -255,12 +256,10 @@ impl JournalFile {
         JournalFile { path, file: None, is_name_synced: false }
     }
 
-    /// Returns an error unless the journal that is open has this path.
+    /// Returns an error unless the journal is open and has this path. Writing and syncing it took a while, and another program may
+    /// have put its own there.
     fn check_name(&self, path: &Path) -> io::Result<()> {
-        match (&self.file, found_at(path)?) {
-            (Some(file), Some(found)) if is_same(&file.metadata()?, &found) => Ok(()),
-            _ => Err(no_journal()),
-        }
+        self.file.as_ref().map_or_else(|| Err(no_journal()), |file| check_has_path(file, path))
     }
 
     /// Opens the file, or returns `None` if there is none and none is to be made.
@@ -292,6 +291,15 @@ fn open(options: &mut OpenOptions, path: &Path) -> io::Result<File> {
 fn open_same(path: &Path, found: &Metadata) -> io::Result<File> {
     let file = open(File::options().custom_flags(O_NOFOLLOW | O_NONBLOCK), path)?;
     if is_same(&file.metadata()?, found) { Ok(file) } else { Err(no_journal()) }
+}
+
+/// Returns an error unless a file has this path.
+fn check_has_path(file: &File, path: &Path) -> io::Result<()> {
+    let own = file.metadata()?;
+    match found_at(path)? {
+        Some(found) if is_same(&own, &found) => Ok(()),
+        _ => Err(no_journal()),
+    }
 }
 
 /// Returns what is at the path of a journal, if it has any bytes. An error if it is not a file, or has other names too,
@@ -493,8 +501,7 @@ impl RafIo for JournalFile {
         let _ = fs::remove_file(&copy);
         let made = new_journal(&copy)?;
         let synced = made.write_all_at(bytes, 0).and_then(|()| made.sync_all());
-        // Writing and syncing took a while: another program may have put its own there.
-        let checked = synced.and_then(|()| self.check_name(path));
+        let checked = synced.and_then(|()| check_has_path(&made, &copy)).and_then(|()| self.check_name(path));
         if let Err(error) = checked.and_then(|()| fs::rename(&copy, path)) {
             // In a sticky folder it would keep out other users who may replace the journal.
             let _ = fs::remove_file(&copy);
@@ -537,11 +544,13 @@ impl RafIo for JournalFile {
             }
             self.file = None;
             self.is_name_synced = false;
-        } else if !self.is_name_synced {
+            return Ok(());
+        }
+        if !self.is_name_synced {
             sync_folder(path)?;
             self.is_name_synced = true;
         }
-        Ok(())
+        self.check_name(path)
     }
 }
 
@@ -661,7 +670,7 @@ pub mod tests {
         assert!(emptied(at, &found).unwrap().is_none() && !at.exists());
     }
 
-    /// A copy takes the name of no other journal than was opened.
+    /// A journal that has lost its name is not synced, and a copy takes the name of no other journal than was opened.
     #[test]
     fn exchanged_journals() {
         let Paths(_, at) = &Paths::new("exchanged");
@@ -672,7 +681,7 @@ pub mod tests {
         assert_eq!(fs::read(at).unwrap(), [2; 600]);
         fs::remove_file(at).unwrap();
         fs::write(at, "another").unwrap();
-        assert!(journal.replace(&[3; 600]).is_err());
+        assert!(journal.sync().is_err() && journal.replace(&[3; 600]).is_err());
         assert_eq!(fs::read(at).unwrap(), b"another");
         assert!(!at.with_extension("jrncopy").exists());
     }
