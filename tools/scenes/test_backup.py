@@ -55,7 +55,7 @@ class Backup(Scene):
         for link in "link", "link/", "link//":
             self.tool(2, ["bash", SCRIPT, "key", "store", f"{os.getcwd()}/{link}"], "is a link: give its target")
         for folder in "/", os.getcwd(), f"{os.getcwd()}/store/":
-            self.tool(2, ["bash", SCRIPT, "key", "store", folder], "contains store")
+            self.tool(2, ["bash", SCRIPT, "key", "store", folder], r"contains /.*/store$")
         for keep in "some", "-1", "010", "08", "18446744073709551617":
             self.night("2026-04-01", 0, 2, f"KEEP must be a number such as 30, not {keep}", KEEP=keep)
         self.night("2026-04-01", 0, 0, lacks=".")
@@ -65,7 +65,7 @@ class Backup(Scene):
         self.assertEqual(self.stored(), ["2026-04-01"])
         self.night("2026-04-01", 0, 0, lacks=".")
         self.shell(0, "exec 9> store/backup.lock; flock 9; "
-            f"PATH=$PWD/bin:$PATH TODAY=2026-04-02 bash {SCRIPT} key store /small; [ $? = 1 ]", "another run uses store")
+            f"PATH=$PWD/bin:$PATH TODAY=2026-04-02 bash {SCRIPT} key store /small; [ $? = 1 ]", r"another run uses /.*/store$")
         self.assertEqual(self.stored(), ["2026-04-01"])
 
     # The first night of a month finds what is damaged, and so does each night until it is gone.
