@@ -1,5 +1,5 @@
 # The commands that a person types. Each folder's own are in its rules.mk.
-.PHONY: run program quick quick-over-the-stand-in check-standin test check-gate check-pages check-mutants check-mutants-alone check-mutants-rotated
+.PHONY: run program quick quick-over-the-stand-in check-standin test check-gate check-pages check-mutants check-mutants-alone
 .SECONDARY:
 .DELETE_ON_ERROR:
 
@@ -102,10 +102,6 @@ check-mutants-alone:
 # Tries all mutants that are listed: the prover has to refuse each, and to prove each control.
 check-mutants:
 	python3 tools/mutants.py try
-
-# Tries a tenth of them, that of the day MUTANTS_DAY of the year, over the proofs that the gate has kept.
-check-mutants-rotated:
-	RT_JOBS=1 python3 tools/mutants.py try-tenth
 
 # Each sample and each quoted contract of the pages stands in a proved crate, no line is too long, each clause that
 # docs/PROOFS.md names is there, each definition that a public contract reaches is listed, each mutant can be applied, and no

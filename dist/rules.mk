@@ -3,11 +3,9 @@
 
 # Writes the archives, the packages and their sums to out/dist. If the tools for ARM are there, its archive too, and
 # with musl-gcc the wheel for musl.
-HAS_ARM = $(shell command -v aarch64-linux-gnu-gcc)
-HAS_MUSL = $(shell command -v musl-gcc)
-
-dist: $(OUT)/both/libhunkravy.a $(OUT)/both/$(SONAME) $(OUT)/both/hunkravy $(SDIST) $(WHEEL) $(if $(HAS_MUSL),$(WHEEL_musl)) \
-		$(if $(HAS_ARM),$(OUT)/aarch64/libhunkravy.a $(OUT)/aarch64/$(SONAME) $(WHEEL_aarch64))
+dist: $(OUT)/both/libhunkravy.a $(OUT)/both/$(SONAME) $(OUT)/both/hunkravy $(SDIST) $(WHEEL) \
+		$(if $(shell command -v musl-gcc),$(WHEEL_musl)) \
+		$(if $(shell command -v aarch64-linux-gnu-gcc),$(OUT)/aarch64/libhunkravy.a $(OUT)/aarch64/$(SONAME) $(WHEEL_aarch64))
 	tools/pack.sh $(VERSION) $(OUT)
 
 # Packs the same builds once more, in a copy of the repository in another folder, which has to give the same bytes; compares

@@ -46,21 +46,20 @@ for entry in zipfile.ZipFile(sys.argv[1]).infolist():
 files() {
     if [ -e .git ]; then git ls-files "$@"; else find "${1:-.}" -type f ! -name '*.pyc'; fi
 }
-# What dist/contents.txt lists, for x86-64, without musl-gcc, and for ARM: the same without the tool. A line with two folders
-# stands for the files of the repository that are in the second one, in the first one.
+# What dist/contents.txt lists, for x86-64 and for ARM: the same without the tool. A line with two folders stands for the files
+# of the repository that are in the second one, in the first one.
+musl=$(find "$dist" -name '*musllinux*')
+[ "$musl" ] || echo 'left out: the wheel for musl, since musl-gcc is not installed'
 listed() {
     while read -r line; do
         case $line in
         *'/ '*) files "${line#* }" | sed "s|^${line#* }|${line% *}|" ;;
         *) echo "$line" ;;
         esac
-    done < dist/contents.txt
-}
-without_musl() {
-    listed | grep -v musllinux
+    done < <(if [ "$musl" ]; then cat; else grep -v musllinux; fi < dist/contents.txt)
 }
 for_arm() {
-    without_musl | grep -vE '^bin/|share/(bash|fish|man/man1|zsh)|backup\.sh|^docs/SEALED' | sed 's/x86_64/aarch64/g'
+    listed | grep -vE 'musllinux|^bin/|share/(bash|fish|man/man1|zsh)|backup\.sh|^docs/SEALED' | sed 's/x86_64/aarch64/g'
 }
 # Each line after the name of its package, in order.
 in_order() {
@@ -71,13 +70,7 @@ lists() {
     (cd "$dist" && contents "$2") | sed "s/$version/VERSION/g" | in_order > "$out/contents-$2.txt"
     "$1" | in_order | diff - "$out/contents-$2.txt" || fail "dist/contents.txt does not list what is packed, as $out/contents-$2.txt does"
 }
-musl=$(find "$dist" -name '*musllinux*')
-if [ "$musl" ]; then
-    lists listed x86_64
-else
-    lists without_musl x86_64
-    echo 'left out: the wheel for musl, since musl-gcc is not installed'
-fi
+lists listed x86_64
 if ls "$dist"/*aarch64* > /dev/null 2>&1; then
     lists for_arm aarch64
 else
@@ -198,14 +191,13 @@ for file in "$work"/empty/*/lib/libhunkravy.so.0 "$system"/lib/*/libhunkravy.so.
     hardened "$file"
 done
 
-# loads FOLDER: whether musl's loader misses nothing that the module there needs, but symbols of Python.
-loads() {
-    ! grep -vE 'ld-musl|: _?Py\w+: symbol not found$' <(/lib/ld-musl-x86_64.so.1 --list "$1/hunkravy/_native.abi3.so" 2>&1)
+# What musl's loader misses that the modules need: only what is of Python, and for the one for glibc more.
+missed() {
+    grep -vE 'ld-musl|: _?Py\w+: symbol not found$' <(/lib/ld-musl-x86_64.so.1 --list "$work/wheels/$1/hunkravy/_native.abi3.so" 2>&1)
 }
 if [ "$musl" ]; then
     hardened "$work/wheels/musl/hunkravy/_native.abi3.so" ''
-    loads "$work/wheels/musl" || fail 'the wheel for musl needs more than musl and Python'
-    if loads "$work/wheels/many" > /dev/null; then fail 'a module for glibc passes for one for musl'; fi
+    if missed musl || ! missed many > /dev/null; then fail 'the wheel for musl needs more than musl and Python'; fi
 fi
 
 # The sums of the release are right, by the command of its page.

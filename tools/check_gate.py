@@ -15,7 +15,7 @@ import time
 ROOT = pathlib.Path(__file__).resolve().parents[1]
 GATE = ROOT / ".ci" / "checks"
 # Those that a person calls: of the mutants that cost too much.
-BY_HAND = {"check-mutants", "check-mutants-rotated"}
+BY_HAND = {"check-mutants"}
 
 # The stand-in for make notes its targets. FAILS is one that fails, HANGS one that does not end, IDLE one with nothing to do.
 MAKE = """#!/bin/bash

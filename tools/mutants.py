@@ -8,18 +8,15 @@ mutants.py check: each can be applied, since every text that it replaces stands 
 crate, and names the clauses that refuse it. The function that it changes, or one that calls that, has a clause of each name.
 mutants.py try-alone: the prover refuses each mutant with a line `alone:`, over the libraries that `rt ci` has proved.
 mutants.py try [CRATE..]: it refuses each mutant that is listed, and proves each control.
-mutants.py try-tenth: it refuses each mutant of the day's tenth.
 """
 
 import functools
-import os
 import pathlib
 import re
 import shutil
 import subprocess
 import sys
 import tempfile
-import time
 from typing import NamedTuple
 
 import proved
@@ -302,8 +299,13 @@ def try_alone():
     return not all([is_refused_alone(edit) for edit in edits])
 
 
-def try_these(mutants, controls):
-    """Returns whether the prover fails to refuse a mutant, or to prove a control: not to refuse it."""
+def try_listed(crates):
+    """Tries the mutants and the controls that are listed for these crates, or for all. Returns whether the prover fails to
+    refuse a mutant, or to prove a control: not to refuse it."""
+    if unknown := [crate for crate in crates if not (CRATES / crate).is_dir()]:
+        sys.exit(f"there is no crate {unknown[0]}")
+    files = ("mutants.txt", "controls.txt")
+    mutants, controls = ([edit for edit in listed(file) if not crates or edit.crate.name in crates] for file in files)
     with tempfile.TemporaryDirectory() as folder:
         copy = pathlib.Path(folder)
         shutil.copytree(CRATES, copy / CRATES, ignore=shutil.ignore_patterns("out", "must-fail"))
@@ -313,26 +315,9 @@ def try_these(mutants, controls):
         return not are_refused or bool(tried(copy, controls)[1])
 
 
-def try_listed(crates):
-    """Tries the mutants and the controls that are listed for these crates, or for all."""
-    if unknown := [crate for crate in crates if not (CRATES / crate).is_dir()]:
-        sys.exit(f"there is no crate {unknown[0]}")
-    lists = ([edit for edit in listed(file) if not crates or edit.crate.name in crates] for file in ("mutants.txt", "controls.txt"))
-    return try_these(*lists)
-
-
-def try_tenth():
-    """Tries a tenth of the mutants that are listed, of few crates, since those of a crate share its proof: that of the day
-    MUTANTS_DAY of the year, or of today."""
-    day, mutants = int(os.environ.get("MUTANTS_DAY") or time.strftime("%j")), list(listed("mutants.txt"))
-    start, stop = (len(mutants) * tenth // 10 for tenth in (day % 10, day % 10 + 1))
-    print(f"day {day} of the year: mutants {start + 1} to {stop} of {len(mutants)}", flush=True)
-    return try_these(mutants[start:stop], [])
-
-
 if __name__ == "__main__":
     command, *words = sys.argv[1:]
-    tries = {"try": lambda: try_listed(words), "try-alone": try_alone, "try-tenth": try_tenth}
+    tries = {"try": lambda: try_listed(words), "try-alone": try_alone}
     if command in tries:
         sys.exit(tries[command]())
     sys.exit("\n".join(check()) or None)

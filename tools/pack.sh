@@ -31,12 +31,6 @@ pack() {
     tar -C "$work" --sort=name --owner=0 --group=0 --numeric-owner --format=gnu -cf - "$1" | gzip -9n > "$out/dist/$1.tar.gz"
 }
 
-# The sources of the commit. An archive of them has no history, from which they could be taken again.
-commit_sources() {
-    if [ -e .git ]; then git archive "--prefix=hunkravy-$version-source/" HEAD | gzip -9n > "$out/source.tar.gz"; fi
-    if [ -e "$out/source.tar.gz" ]; then cp "$out/source.tar.gz" "$out/dist/hunkravy-$version-source.tar.gz"; fi
-}
-
 # The sources for Python, with the library for each processor.
 sources() {
     tar -C "$work" -xf "$out/hunkravy-$version.tar.gz"
@@ -105,7 +99,9 @@ packages() {
 }
 
 root=$PWD
-commit_sources
+# The sources of the commit. An archive of them has no history, from which they could be taken again.
+if [ -e .git ]; then git archive "--prefix=hunkravy-$version-source/" HEAD | gzip -9n > "$out/source.tar.gz"; fi
+if [ -e "$out/source.tar.gz" ]; then cp "$out/source.tar.gz" "$out/dist/hunkravy-$version-source.tar.gz"; fi
 sources
 archive x86_64 strip
 if [ -f "$out/aarch64/libhunkravy.a" ]; then archive aarch64 aarch64-linux-gnu-strip; fi

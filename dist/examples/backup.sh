@@ -14,28 +14,22 @@ store=$(realpath -e -- "$2")
 shift 2
 unset TAPE TAR_OPTIONS
 shopt -s nullglob
+dated='backup-[0-9][0-9][0-9][0-9]-[0-9][0-9]-[0-9][0-9].sealed'
 for path in "$@"; do
     [[ $path == /* ]] || { echo "backup.sh: not an absolute path: $path" >&2; exit 2; }
     [ ! -L "$(realpath -ms "$path")" ] || { echo "backup.sh: $path is a link: give its target" >&2; exit 2; }
     folder=$(realpath -m "$path")
     [[ $store/ != "${folder%/}"/* ]] || { echo "backup.sh: $path contains $store" >&2; exit 2; }
 done
-today=$(date +%F)
-part=$store/backup.part
+today=$(date +%F) part=$store/backup.part
 
 # One run at a time. The files that a killed run has left are removed.
 exec 9> "$store/backup.lock"
 flock -n 9 || { echo "backup.sh: another run uses $store" >&2; exit 1; }
 rm -f "$part" "$store"/.backup.part.hunkravy-*
 
-# The backups of all days, the oldest first.
-find_backups() {
-    backups=("$store"/backup-[0-9][0-9][0-9][0-9]-[0-9][0-9]-[0-9][0-9].sealed)
-}
-
 # A clock that is behind would make today's backup the oldest one, which is removed.
-find_backups
-for backup in "${backups[@]}"; do
+for backup in "$store"/$dated; do
     if [[ $backup > $store/backup-$today.sealed ]]; then
         echo "backup.sh: no backup today: the clock is behind $backup (remove it if its date is wrong)" >&2
         exit 1
@@ -50,15 +44,13 @@ archive "$@" | hunkravy seal -q -k "$key" - "$part" || { rm -f "$part"; echo 'ba
 mv "$part" "$store/backup-$today.sealed"
 sync "$store"
 
-find_backups
-extra=$((${#backups[@]} - keep))
-if [ "$extra" -gt 0 ] && [ "$keep" -gt 0 ]; then rm "${backups[@]:0:extra}"; fi
+set -- "$store"/$dated
+if [ "$keep" -gt 0 ] && [ $# -gt "$keep" ]; then rm "${@:1:$# - keep}"; fi
 
 # Once a month all of them are verified, by the first run that gets here, and by later ones until none is damaged.
 month=${today%-*} result=0
 if [ "$(cat "$store/backup.checked" 2> /dev/null)" != "$month" ]; then
-    find_backups
-    for backup in "${backups[@]}"; do hunkravy check -q -k "$key" "$backup" || result=1; done
+    for backup in "$store"/$dated; do hunkravy check -q -k "$key" "$backup" || result=1; done
     if [ "$result" = 0 ]; then echo "$month" > "$store/backup.checked"; fi
 fi
 exit "$result"
