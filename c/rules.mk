@@ -95,6 +95,8 @@ check-c: $(if $(filter aarch64,$(FOLDER)),check-c-aarch64,check-header $(addpref
 # Each header compiles alone, by each standard of C and C++, and without a warning; and so does what is compiled here. The oldest
 # standards are without -Wpedantic, which libsodium's headers do not pass either.
 CLANG = $(shell command -v clang)
+# New clangs warn of each pointer that is moved.
+EVERYTHING = -Weverything -Wno-unknown-warning-option -Wno-unsafe-buffer-usage
 STANDARDS = c99 c11 c17 c2x $(if $(shell command -v g++),c++11 c++14 c++17 c++20)
 
 check-header: check-manual
@@ -127,10 +129,10 @@ check-header: check-manual
 	! grep -n '^int hunkravy_' $(OWN_HEADERS:%=c/include/%) | grep -v 'hunkravy_level(void)'
 	if [ -n "$(CLANG)" ]; then \
 		for header in $(HEADERS); do \
-			echo "#include \"$$header\"" | $(CLANG) -std=c99 $(C_FLAGS) -Weverything -fsyntax-only -x c - || exit 1; \
+			echo "#include \"$$header\"" | $(CLANG) -std=c99 $(C_FLAGS) $(EVERYTHING) -fsyntax-only -x c - || exit 1; \
 		done; \
 		for file in c/library/*.c c/file/*.c; do \
-			$(CLANG) -std=c99 $(C_FLAGS) -Ic/library -Weverything -Wno-declaration-after-statement -fsyntax-only $$file || exit 1; \
+			$(CLANG) -std=c99 $(C_FLAGS) -Ic/library $(EVERYTHING) -Wno-declaration-after-statement -fsyntax-only $$file || exit 1; \
 		done; \
 	else \
 		echo 'left out: the headers by clang, which is not installed'; \

@@ -11,6 +11,7 @@ import shlex
 import shutil
 import sys
 import sysconfig
+import uuid
 
 from setuptools import Extension, setup
 from setuptools.command.build_ext import build_ext
@@ -52,7 +53,7 @@ class BuildModule(build_ext):
     def run(self) -> None:
         compiler = shlex.split(os.environ.get("CC") or sysconfig.get_config_var("CC"))[0]
         if shutil.which(compiler) is None:
-            sys.exit(f"hunkravy: there is no C compiler {compiler}: install gcc and libc6-dev, or use the wheel")
+            sys.exit(f"hunkravy: there is no C compiler {compiler}: install gcc and libc6-dev (Alpine: musl-dev), or use the wheel")
         if not any(pathlib.Path(folder, "Python.h").exists() for folder in self.include_dirs):
             sys.exit("hunkravy: there is no Python.h: install python3-dev (Fedora: python3-devel), or use the wheel")
         if "" in self.extensions[0].extra_link_args:
@@ -67,7 +68,12 @@ class Information(egg_info):
         super().run()
         if (HERE / "parts.spdx.json").exists():
             self.mkpath(f"{self.egg_info}/sboms")
-            self.copy_file("parts.spdx.json", f"{self.egg_info}/sboms/hunkravy.spdx.json")
+            parts = (HERE / "parts.spdx.json").read_text()
+            if "musl" in f"{sysconfig.get_platform()} {sysconfig.get_config_var('HOST_GNU_TYPE')}":
+                identity = re.findall("urn:uuid:([0-9a-f-]+)", parts)[0]
+                parts = parts.replace(identity, str(uuid.uuid5(uuid.UUID(identity), "musl")))
+                parts = parts.replace("glibc", "musl").replace("LGPL-2.1-or-later", "MIT")
+            pathlib.Path(self.egg_info, "sboms/hunkravy.spdx.json").write_text(parts)
 
 
 setup(

@@ -111,7 +111,8 @@ folder=$work/empty/hunkravy-$version-x86_64-linux system=$work/system/usr
 # The wheel for musl has the files of the one for glibc, with a module of its own.
 if [ "$musl" ]; then
     for libc in many musl; do python3 -m zipfile -e "$dist"/*"$libc"linux*_x86_64.whl "$work/wheels/$libc"; done
-    diff -rq -x _native.abi3.so -x RECORD -x WHEEL "$work"/wheels/* || fail 'the wheel for musl has other files'
+    diff -rq -x _native.abi3.so -x RECORD -x WHEEL -x '*.spdx.json' "$work"/wheels/* || fail 'the wheel for musl has other files'
+    [ "$(grep -hoE '"name": "(glibc|musl)"' "$work"/wheels/m*/*/sboms/* | uniq)" = $'"name": "glibc"\n"name": "musl"' ] || fail 'a wheel lists another libc'
 fi
 
 # Nothing is linked with the stand-in for the proved library.
@@ -128,7 +129,7 @@ for unpacked in "$work"/empty/*; do
     has "$unpacked/rust/Cargo.toml" "^version = \"$version\""
     has "$unpacked/include/hunkravy.h" "^#define HUNKRAVY_VERSION \"$version\""
     has "$unpacked/PROVED.md" "^- Commit: $commit\$"
-    has "$unpacked/PROVED.md" "^- Proofs, mutants, tests and programs of this revision: ${line:-not run here}\$"
+    has "$unpacked/PROVED.md" "^- Proofs, mutants, tests and programs in Rattle, of this revision: ${line:-not run here}\$"
     (cd "$unpacked" && python3 "$root/tools/check_pages.py" links) || fail 'a page has a dead link'
     # No page names a file for another processor, or the tool where there is none.
     machine=${unpacked#*-"$version"-} machine=${machine%-linux}

@@ -251,7 +251,7 @@ VERSIONED = {
     "rust/Cargo.toml": 'version = "{0}"\n',
     "rust/Cargo.lock": 'name = "hunkravy"\nversion = "{0}"\n',
     "README.md": "hunkravy-{0}-x86_64-linux",
-    "c/README.md": "hunkravy-{0}-x86_64-linux",
+    "c/README.md": "hunkravy-{0}-$(uname -m)-linux",
     "rust/README.md": "hunkravy-{0}-x86_64-linux",
     "python/README.md": "hunkravy-{0}.tar.gz",
     "CONTRIBUTING.md": "hunkravy-{0}.tar.gz",

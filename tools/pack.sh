@@ -22,7 +22,7 @@ proved() {
     if [ -z "${GATE_LINE-}" ] && python3 tools/proved.py check 2> /dev/null; then
         GATE_LINE=$(cat out/proved-line)
     fi
-    echo "- Proofs, mutants, tests and programs of this revision: ${GATE_LINE:-not run here}"
+    echo "- Proofs, mutants, tests and programs in Rattle, of this revision: ${GATE_LINE:-not run here}"
 }
 
 # pack NAME: the archive of a folder of work.

@@ -20,7 +20,7 @@ VERSION = pathlib.Path("VERSION").read_text("ascii").strip()
 NAMED = {"MIT licence": "MIT", "Unicode License": "Unicode-3.0", "Unlicense": "Unlicense"}
 RATTLE = {"licenseId": "LicenseRef-Rattle", "extractedText": "Rattle's kit has no notice for its own libraries."}
 # What the linker adds, whose licences allow it in any program.
-LINKS = "The files that start and end a program or a shared library, in the wheel for musl those of musl. A static library has none of them."
+LINKS = "The files that start and end a program or a shared library. A static library has none of them."
 LINKED = {"glibc": "LGPL-2.1-or-later", "gcc": "GPL-3.0-or-later WITH GCC-exception-3.1"}
 
 

@@ -69,7 +69,8 @@ class RandomAccessFile(variants.Secret, _native.RandomAccessFile):
 
         A batch in another one commits nothing: it is a savepoint. Changes from before the outermost batch are committed
         with it, and are still pending after it was undone. While a batch is open, `commit` raises `RuntimeError` and changes
-        nothing, and `close` raises it and closes the file without a commit. `discard` ends all batches.
+        nothing, and `close` raises it and closes the file without a commit. `discard` ends all batches, and the ends of
+        their blocks raise `RuntimeError`.
         """
         return _native.Batch(self)
 
