@@ -21,6 +21,8 @@ HERE = pathlib.Path(__file__).resolve().parent
 INCLUDE = next(path for path in (HERE / "include", HERE.parent / "c" / "include") if path.exists())
 FLAGS = "-std=c11 -Wall -Wextra -Wpedantic -fvisibility=hidden -fstack-protector-strong".split()
 FLAGS += ["-U_FORTIFY_SOURCE", "-D_FORTIFY_SOURCE=3"]
+# With CFLAGS later versions of setuptools drop Python's own -O, without which no copy is checked.
+FLAGS += [] if "-O" in os.environ.get("CFLAGS", "") else ["-O2"]
 # Landing pads in this C, for indirect branches.
 BRANCHES = {"x86_64": ["-fcf-protection"], "aarch64": ["-mbranch-protection=standard"]}
 # The library's names are not exported, so no other library's are used in their place.

@@ -34,8 +34,8 @@
  * RESULTS. A function that is marked HUNKRAVY_MUST_USE returns HUNKRAVY_OK, a code of hunkravy.h (negative), or an error
  * number of the system, such as ENOSPC (positive). hunkravy_file_error_text has a message for each. After ENOMEM nothing
  * has changed, unless the function's comment says so. EINVAL means that PATH.journal is not a regular file, has several
- * names, may be written by a user who may not write the file, was exchanged meanwhile, or could not be made so that it is
- * safe. If descriptor 0, 1 or 2 is closed, the library opens the folder / there, and keeps it: so no file gets what a
+ * names, or may be written by a user who may not write the file; that it was exchanged meanwhile; or that no safe one could
+ * be made. If descriptor 0, 1 or 2 is closed, the library opens the folder / there, and keeps it: so no file gets what a
  * program prints. These codes are of files:
  *
  * - HUNKRAVY_NO_FILE: there is no header of this variant and key. The key is wrong, or the file is empty, damaged or

@@ -89,9 +89,8 @@ class Building(unittest.TestCase):
         self.pip("wheel", "-w", self.folder, SDIST, flags="-Wpadded '-DWORDS=two words'")
         for arguments in self.arguments.read_text().splitlines():
             words = arguments.split()
-            # Later versions of setuptools have no others beside CFLAGS.
-            self.assertLessEqual({word for word in words if word.startswith("-O")}, {"-O0", "-O2", "-O3"})
-            self.assertNotEqual([word for word in words if word.startswith("-O")][-1:], ["-O0"])
+            if "-shared" not in words:
+                self.assertIn([word for word in words if word.startswith("-O")][-1:], (["-O2"], ["-O3"]))
             self.assertIn("-Wpadded", words)
             self.assertNotIn("-Werror", words)
 
