@@ -54,7 +54,7 @@ LDFLAGS="-Wl,--wrap=hunkravy_level $work/older.o" build older
 
 # Another build gives the same bytes as that of `make`.
 CFLAGS=-Werror build again
-cmp "$work"/again-wheel/*.whl "$folder"/../*"$(uname -m)".whl || fail 'two builds of the wheel differ'
+cmp "$work"/again-wheel/*.whl "$folder"/../*manylinux*"$(uname -m)".whl || fail 'two builds of the wheel differ'
 
 # With the sanitizers. Python itself leaks.
 sanitizer=$(gcc -print-file-name=libasan.so)
